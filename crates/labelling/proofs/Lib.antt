@@ -1,0 +1,15 @@
+pub mod Offering
+pub mod Running
+pub mod Forking
+pub mod Taking
+pub mod Labels
+pub mod Starting
+pub mod Apart
+pub mod Viewing
+pub mod Standing
+pub mod Writing
+pub mod Folding
+pub mod Choosing
+pub mod Tracing
+pub mod Turning
+pub mod Ended

@@ -1,0 +1,9 @@
+pub mod Tables
+pub mod Offers
+pub mod Runs
+pub mod Forks
+pub mod Turns
+pub mod Labelling
+pub mod Starts
+pub mod Questions
+pub mod Tracing

@@ -1,0 +1,5 @@
+pub mod Costs
+pub mod Money
+pub mod Numbers
+pub mod Layouts
+pub mod Bounds
