@@ -1,6 +1,7 @@
 // The turns, within a limit.
 ghost use mathlib.Core.Path.{_≡_};
 ghost use Prim.Native.Nat.{_+_, _*_, _<_, _≤_, _^_};
+ghost use lib.Dec.{eqb};
 ghost use lib.ListN.{length};
 ghost use Rattle.labelling.specs.Tables.{rule, tables, Ready, standing};
 ghost use Rattle.labelling.specs.Runs.{Ends};
@@ -27,6 +28,13 @@ fn stop<K: Cost>(least: Option<(K, usize)>) -> Outcome<K>
     }
 }
 
+// Whether every turn of the limit was taken.
+fn is_spent(turns: u32, limit: u32) -> bool
+    ensures { λ r. ⌜ r ≡ eqb turns limit ⌝ }
+{
+    turns == limit
+}
+
 pub(crate) fn take_turns<Q: Queue, E: Estimator<Cost = Q::Cost>>(
     labels: &mut [Label<Q::Cost>],
     ways: &mut [Way],
@@ -51,7 +59,7 @@ pub(crate) fn take_turns<Q: Queue, E: Estimator<Cost = Q::Cost>>(
 {
     let mut turns = 0;
     let outcome = loop {
-        if turns == limit {
+        if is_spent(turns, limit) {
             break stop((*queue).least());
         }
         let number = turns + 1;

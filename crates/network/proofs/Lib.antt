@@ -1,1 +1,2 @@
+pub mod CrossingsFirsts
 pub mod Moneys

@@ -13,7 +13,8 @@ use Rattle.labelling.specs.declared.kinds.Size.{Size}
 use Rattle.labelling.specs.declared.kinds.Way.{Way}
 use Rattle.labelling.specs.Tables.{codes, code-of}
 use Rattle.labelling.proofs.Offering.{code-within}
-use Rattle.search.specs.Drawing.{far-end, back-of, turn-of, by, drawn, Settled, Leads, Falls}
+use Rattle.optimal.specs.Drawing.{far-end, back-of, by, drawn}
+use Rattle.search.specs.Drawing.{turn-of, Settled, Leads, Falls}
 
 -- the other end, as the code finds it
 module _ {K : Type 0} where

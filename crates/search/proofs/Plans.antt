@@ -35,7 +35,8 @@ use Rattle.labelling.specs.Tracing.{Earlier, Trace, from-outlet, from-run, from
 use Rattle.labelling.proofs.Viewing.{Room, asked-room}
 use Rattle.labelling.proofs.Ended.{Ended, EndedAs}
 use Rattle.search.specs.declared.answer.Plan.{Plan}
-use Rattle.search.specs.Drawing.{far-end, back-of, turn-of, drawn, Settled, Leads, Falls}
+use Rattle.optimal.specs.Drawing.{far-end, back-of, drawn}
+use Rattle.search.specs.Drawing.{turn-of, Settled, Leads, Falls}
 use Rattle.search.specs.Planning.{questions, then-ask, Planned, priced-at, cost-at, no-runs, runs-drawn, ended-by, concluded, Drawable}
 
 none≢some : {X : Type 0} {x : X} {G : Type 0} → None ≡ Some x → G

@@ -1,3 +1,4 @@
 pub mod Answers
 pub mod Drawing
 pub mod Planning
+pub mod Promise

@@ -23,7 +23,8 @@ use Rattle.labelling.specs.Questions.{room-answer}
 use Rattle.search.specs.declared.answer.Plan.{Plan}
 use Rattle.search.specs.declared.answer.NoPlan.{NoPlan}
 use Rattle.search.specs.declared.answer.NoPlan.the-variants.{Refused, Unjoined, Stopped as AtLimit}
-use Rattle.search.specs.Drawing.{drawn, turn-of, Settled, Falls}
+use Rattle.optimal.specs.Drawing.{drawn}
+use Rattle.search.specs.Drawing.{turn-of, Settled, Falls}
 
 -- the questions after the first: go on only after a "yes"
 abbrev pub then-ask : {X Y : Type 0} → Result X Refusal → Result Y Refusal → Result Y Refusal

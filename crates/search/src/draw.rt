@@ -1,9 +1,10 @@
 // Drawing: from a settled label along the ways back. The table holds no costs, and turns fall along it.
 ghost use mathlib.Core.Path.{_≡_};
 ghost use Prim.Native.Nat.{ℕ, _-_, _<_, _≤_};
-ghost use lib.ListN.{length};
+ghost use lib.ListN.{length, set as put-at};
 ghost use Rattle.labelling.specs.Tables.{codes};
-ghost use Rattle.search.specs.Drawing.{far-end, back-of, turn-of, drawn, Settled, Falls};
+ghost use Rattle.optimal.specs.Drawing.{far-end, back-of, drawn};
+ghost use Rattle.search.specs.Drawing.{turn-of, Settled, Falls};
 use labelling::Back;
 use labelling::Size;
 use labelling::Way;
@@ -30,6 +31,14 @@ fn way_back<K: Cost>(ways: &[Way], runs: &[Run<K>], size: Size, v: Junction, set
     ways[size.code(v, set)].back
 }
 
+// The run belongs to the network.
+fn mark(answer: &mut [u8], number: RunNumber)
+    requires { ⌜ number < length (now answer) ⌝ }
+    ensures { λ _. ⌜ now (answer .exit) ≡ put-at (now (answer .entry)) number 1 ⌝ }
+{
+    answer[number as usize] = 1;
+}
+
 // A branch, run by run until a fork or its end.
 pub(crate) fn draw_branch<K: Cost>(
     ways: &[Way],
@@ -50,7 +59,7 @@ pub(crate) fn draw_branch<K: Cost>(
         match way_back(ways, runs, size, v, set) {
             Back::Start => return,
             Back::Run(number) => {
-                answer[number as usize] = 1;
+                mark(answer, number);
                 v = far_end(runs, number, v);
             }
             Back::Fork(part) => {

@@ -4,13 +4,16 @@ ghost use Prim.Native.Nat.{suc, _-_, _<_, _≤_, min};
 ghost use lib.ListN.{length, getD};
 ghost use Rattle.std.specs.Results.{Cases};
 ghost use Rattle.std.specs.declared.result.Result.the-variants.{Err};
+ghost use Rattle.network.specs.Layouts.{Priced};
 ghost use Rattle.district.specs.Model.{layout-of};
 ghost use Rattle.estimate.specs.Estimates.{Prepared};
 ghost use Rattle.labelling.specs.declared.kinds.Outcome.the-variants.{Finished};
 ghost use Rattle.labelling.specs.Starts.{size-of, wiped};
 ghost use Rattle.labelling.specs.Tables.{tables, codes, code-of, standing};
-ghost use Rattle.search.specs.Drawing.{drawn, turn-of, Settled, Falls};
+ghost use Rattle.optimal.specs.Drawing.{drawn};
+ghost use Rattle.search.specs.Drawing.{turn-of, Settled, Falls};
 ghost use Rattle.search.specs.Planning.{questions, concluded, Carried, Drawable};
+ghost use Rattle.search.specs.Promise.{Right};
 use crate::answer::NoPlan;
 use crate::answer::Plan;
 use crate::draw::draw_branch;
@@ -147,7 +150,8 @@ pub fn plan<Q: Queue, E: Estimator<Cost = Q::Cost>>(
         (λ _. Carried (Cost·Cost .kind) (bound (now (estimator .exit))) (layout-of (now (view .entry))) limit (tables (now (labels .entry)) (now (ways .entry))) (tables (now (labels .exit)) (now (ways .exit))) (now (answer .entry)) (waiting (now (queue .exit))) (record { answer = r; row = now (answer .exit) })
         × makes (layout-of (now (view .entry))) (bound (now (estimator .exit)))
         × Prepared (Cost·Cost .kind) (layout-of (now (view .entry))) (bound (now (estimator .exit)))
-        × ok (now (queue .exit)))
+        × ok (now (queue .exit))
+        × (Priced (Cost·Cost .kind) (layout-of (now (view .entry)) .runs) → Right (Cost·Cost .kind) (bound (now (estimator .exit))) (layout-of (now (view .entry))) limit (tables (now (labels .exit)) (now (ways .exit))) (now (answer .exit)) r))
         (λ why. (r ≡ Err (NoPlan.Refused why))
         × (tables (now (labels .exit)) (now (ways .exit)) ≡ tables (now (labels .entry)) (now (ways .entry)))
         × (now (queue .exit) ≡ now (queue .entry))

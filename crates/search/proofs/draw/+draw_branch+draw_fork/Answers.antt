@@ -1,9 +1,9 @@
 use borrow.Author.Needs.{needs}
-use mathlib.Core.Path.{refl}
+use mathlib.Core.Path.{refl, sym, subst}
 use Prim.Native.Nat.{_<_, _≤_}
 use native.Mathlib.Omega.{arith}
-use Rattle.labelling.specs.declared.kinds.Back.the-variants.{Fork}
-use Rattle.search.proofs.Drawings.{leads, at-start, at-run, at-fork}
+use Rattle.labelling.specs.declared.kinds.Back.the-variants.{Run as ByRun, Fork}
+use Rattle.search.proofs.Drawings.{Come, leads, at-start, at-run, at-fork}
 use Rattle.search.proofs.draw.+draw_branch+draw_fork.Needs as need
 
 pub draw-branch-loop-number-holds : need.draw-branch-loop-number-holds
@@ -17,7 +17,16 @@ draw-branch-returns-in-Start g t c =
 pub draw-branch-loop-number-again : need.draw-branch-loop-number-again
 draw-branch-loop-number-again g t c =
     let inv = c .loop-number .inv in
-    at-run (c .args .size) (c .args .runs .now) (c .args .ways .now) (c .pre .falls) (c .loop-number .v) (c .args .set) (inv .settled) (c .loop-number .answer) (c .args .from) (c .args .answer .now) (c .pre .settled) inv (c .in-Run .number) (c .far-end-v .result) (c .in-Run .ensures tt) (c .far-end-v .ensures)
+    subst (λ row. Come (c .args .size) (c .args .runs .now) (c .args .ways .now) (c .args .from) (c .args .set) (c .args .answer .now) row (c .far-end-v .result)) (sym (c .mark .ensures))
+    (at-run (c .args .size) (c .args .runs .now) (c .args .ways .now) (c .pre .falls) (c .loop-number .v) (c .args .set) (inv .settled) (c .loop-number .answer) (c .args .from) (c .args .answer .now) (c .pre .settled) inv (c .in-Run .number) (c .far-end-v .result) (c .in-Run .ensures tt) (c .far-end-v .ensures))
+
+pub draw-branch-mark-requires : need.draw-branch-mark-requires
+draw-branch-mark-requires g t c κs =
+    let inv = c .loop-number .inv in
+    let h = leads (c .args .size) (c .args .runs .now) (c .args .ways .now) (c .pre .falls) (c .loop-number .v) (c .args .set) (inv .settled) (c .loop-number .answer) (ByRun (c .in-Run .number)) (c .in-Run .ensures tt) in
+    let long = inv .long in
+    let room = c .pre .room in
+    omega (arith, h .0)
 
 pub draw-branch-draw-fork-requires : need.draw-branch-draw-fork-requires
 draw-branch-draw-fork-requires g t c κs within =

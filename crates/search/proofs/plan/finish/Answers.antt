@@ -6,7 +6,7 @@ use Rattle.std.proofs.shelf.Lists.{getD-read}
 use Rattle.labelling.specs.declared.kinds.Label.{Label}
 use Rattle.labelling.specs.Tables.{codes, code-of}
 use Rattle.labelling.proofs.Offering.{code-within}
-use Rattle.search.specs.Drawing.{drawn}
+use Rattle.optimal.specs.Drawing.{drawn}
 use Rattle.search.proofs.plan.finish.Needs as need
 
 pub index-labels-code : need.index-labels-code

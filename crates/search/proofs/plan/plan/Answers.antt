@@ -15,6 +15,7 @@ use Rattle.labelling.proofs.Viewing.{ends-from}
 use Rattle.labelling.proofs.Ended.{Ended, labelling-ended}
 use Rattle.search.specs.Planning.{questions, concluded}
 use Rattle.search.proofs.Plans.{passed, all-within, drawable-by, cases-ok}
+use Rattle.search.proofs.Promises.{promise}
 use Rattle.search.proofs.plan.plan.Needs as need
 
 pub conclude-requires : need.conclude-requires
@@ -75,18 +76,28 @@ returns-in-Ok-label-view g c =
     let p = passed l places capacity (within (l .junctions) (length (l .outlets))) row (c .in-Ok .size) asked in
     let ready = c .prepare .ensures .answers ∙ cond-true (within (l .junctions) (length (l .outlets))) _ _ (p .estimator) in
     let done = c .in-Ok-label-view .ensures tt .labels in
+    let kind = g .Cost·Cost .kind in
+    let bound = g .E·Estimator .bound (c .prepare .last .self) in
+    let t0 = tables (c .args .labels .now) (c .args .ways .now) in
+    let in-labels = p .room .labels in
+    let is-plan = c .conclude .ensures ∙ ap (λ x. concluded kind l x (c .args .answer .now)) (done .0) in
+    let is-left = ap (λ (x : Labelled _). x .left) (done .0) in
     record {
       lends = c .prepare .ensures .lends;
       stands = c .in-Ok-label-view .ensures tt .lends;
       room = c .prepare .ensures .room;
       plans = cases-ok _ _ (questions l places capacity (within (l .junctions) (length (l .outlets))) row) (c .in-Ok .size) asked (
         record {
-          plan = c .conclude .ensures ∙ ap (λ x. concluded (g .Cost·Cost .kind) l x (c .args .answer .now)) (done .0);
-          labels = ap (λ (x : Labelled _). x .left) (done .0);
+          plan = is-plan;
+          labels = is-left;
           queue = done .1;
         },
         c .prepare .ensures .made ready,
         c .prepare .ensures .lawful ready,
         done .2,
+        λ priced.
+            promise kind (g .Cost·Cost·met .laws) bound l (ends-from (v .junctions) (v .runs .now) (v .ends)) (v .few)
+            (all-within (v .junctions) (v .outlets .count) (v .outlets .places) fits (v .inside)) (p .room .marked) priced (c .prepare .ensures .lawful ready .lawful priced)
+            t0 (omega arith) (omega arith) (c .args .limit) (c .args .answer .now) (p .answer) _ _ is-plan is-left,
       );
     }

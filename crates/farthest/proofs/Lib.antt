@@ -1,0 +1,10 @@
+pub mod Graph
+pub mod Walks
+pub mod Rounds
+pub mod Steps
+pub mod Columns
+pub mod Masks
+pub mod Numbered
+pub mod Bounding
+pub mod Prepared
+pub mod Pinned

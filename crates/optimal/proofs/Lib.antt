@@ -1,0 +1,12 @@
+pub mod Bridge
+pub mod Deriving
+pub mod Reaching
+pub mod Leasts
+pub mod Trying
+pub mod Searching
+pub mod Beginning
+pub mod Ends
+pub mod Lighting
+pub mod Exactness
+pub mod Counting
+pub mod Rightness

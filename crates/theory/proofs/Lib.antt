@@ -1,0 +1,11 @@
+pub mod Order
+pub mod Masks
+pub mod Paths
+pub mod Decompose
+pub mod Sets
+pub mod Drawing
+pub mod Bounding
+pub mod Front
+pub mod Optimal
+pub mod Lightness
+pub mod DreyfusWagner

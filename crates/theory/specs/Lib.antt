@@ -1,0 +1,4 @@
+pub mod Derivations
+pub mod Search
+pub mod DreyfusWagner
+pub mod Theorems
