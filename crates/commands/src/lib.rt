@@ -1,4 +1,6 @@
 // The program's text: what one line of it says.
+#![tactic(auto)]
+
 mod bytes;
 mod command;
 mod digits;

@@ -1,4 +1,6 @@
 // A district: junctions, runs of trench with their costs, and outlets.
+#![tactic(auto)]
+
 pub mod district;
 pub mod outlets;
 pub mod view;

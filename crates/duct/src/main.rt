@@ -1,4 +1,6 @@
 // Plans duct trenches: reads a text of districts and answers it line by line.
+#![tactic(auto)]
+
 mod answer;
 mod fault;
 mod input;

@@ -1,4 +1,6 @@
 // Bounds on what a search has still to pay.
+#![tactic(auto)]
+
 pub mod estimator;
 pub mod larger;
 pub mod lent;

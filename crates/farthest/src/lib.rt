@@ -1,4 +1,6 @@
 // The estimator by the outlet that is farthest away.
+#![tactic(auto)]
+
 pub mod farthest;
 mod settle;
 

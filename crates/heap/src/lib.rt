@@ -1,5 +1,7 @@
 // A queue over lent rows of keys, codes and places, which keeps the codes that wait as a heap: a code's key is the
 // cost at which it waits, and no code comes before the one over it.
+#![tactic(auto)]
+
 mod methods;
 #[cfg(test)]
 mod tests;

@@ -1,4 +1,6 @@
 // The labelling: candidates for labels, one turn, and the turns within a limit.
+#![tactic(auto)]
+
 mod forks;
 pub mod kinds;
 pub mod label;

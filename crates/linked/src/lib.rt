@@ -1,4 +1,6 @@
 // A plan of a district in money, by the heap and the farthest outlet, for C to link.
+#![tactic(auto)]
+
 mod calls;
 pub mod export;
 pub mod kinds;

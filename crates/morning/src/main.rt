@@ -1,4 +1,6 @@
 // Plans duct trenches: reads a text of districts, tries the calls of each, and says what each line got.
+#![tactic(auto)]
+
 mod fault;
 mod input;
 mod say;

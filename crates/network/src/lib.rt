@@ -1,4 +1,6 @@
 // What every other crate speaks of: kinds of cost, runs of trench, and the numbers of refusals.
+#![tactic(auto)]
+
 pub mod cost;
 pub mod crossings;
 pub mod money;

@@ -1,4 +1,6 @@
 // That the labelling solves the problem: one small function for each theorem.
+#![tactic(auto)]
+
 ghost use Rattle.optimal.specs.Theorems.{Exact, SettlesRight, FinishesBest, StopsBelow, NoneJoins, Suffices, Counts};
 
 use network::Cost;

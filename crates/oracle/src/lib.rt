@@ -1,5 +1,7 @@
 // Solvers that share nothing with the library: a record kept by the rules, the cheapest network by every set of runs,
 // the recurrence of Dreyfus and Wagner, and a plain labelling.
+#![tactic(auto)]
+
 pub mod costs;
 pub mod kind;
 pub mod record;

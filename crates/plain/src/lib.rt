@@ -1,4 +1,6 @@
 // Answers and plans of the library, as plain numbers.
+#![tactic(auto)]
+
 use district::view::View;
 use estimate::Estimator;
 use labelling::{Label, Way};

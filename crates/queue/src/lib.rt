@@ -1,4 +1,6 @@
 // Queues of codes, each with the cost at which it waits.
+#![tactic(auto)]
+
 mod row;
 
 ghost use Rattle.std.specs.Prelude.{◌≡◌, ℕ, List, length, replicate, None, Option};

@@ -1,4 +1,6 @@
 // A sequence of calls on one district, tried one after another.
+#![tactic(auto)]
+
 mod attempt;
 mod sequence;
 mod turn;

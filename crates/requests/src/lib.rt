@@ -1,4 +1,6 @@
 // What the lines of a district ask for: the calls that they make, with what their plans are made, and the turns by which they are tried.
+#![tactic(auto)]
+
 mod attempts;
 mod figured;
 mod requests;

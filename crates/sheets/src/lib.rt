@@ -1,4 +1,6 @@
 // The lines of a district, gathered and then tried by `replay` with each queue and estimator that its plans name.
+#![tactic(auto)]
+
 mod page;
 mod sheet;
 mod trials;

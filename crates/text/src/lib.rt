@@ -1,4 +1,6 @@
 // The program's text: what one line of it says.
+#![tactic(auto)]
+
 mod command;
 mod digits;
 mod lines;

@@ -1,4 +1,6 @@
 // The mathematics of the planner: one small function for each theorem.
+#![tactic(auto)]
+
 ghost use Rattle.theory.specs.Theorems.{Decomposes, Drawn, Gathers, DerivesSets, FrontBounds, Settles, TurnKeeps, Begins, Best, Floor, Hopeless, SettledLeast, IsDreyfusWagner, Light};
 
 use network::Cost;

@@ -1,4 +1,6 @@
 // Tries the library on worked examples and on random districts, and holds what it says against other solvers.
+#![tactic(auto)]
+
 mod calls;
 mod cases;
 mod direct;

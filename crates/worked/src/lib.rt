@@ -1,4 +1,6 @@
 // Worked examples: lines of text, and districts from their making to their plan.
+#![tactic(auto)]
+
 #[cfg(test)]
 mod districts;
 #[cfg(test)]
