@@ -22,7 +22,7 @@ returns g c =
     let o : is_open m i ≡ true = mark_read (vec_items D.«open») D.laid i c.index.result.now (omega arith) c.if-run-self.false c.index.ensures ∙ c.if-not-index.false in
     let long : length (take D.laid (vec_items D.runs)) ≡ D.laid = length-take-le D.laid (vec_items D.runs) (omega arith) in
     let h = closes m i (omega arith) o in
-    let marks = with_items_is D.«open» c.set-mark.new.open (c.set-mark.auto.open ∙ search rules) ∙ (c.set-mark.ensures ∙ ap (λ xs. set xs i false) c.deref-mut.ensures.value) in
+    let marks = with_items_is D.«open» c.set_mark.new.open (c.set_mark.auto.open ∙ search rules) ∙ (c.set_mark.ensures ∙ ap (λ xs. set xs i false) c.deref_mut.ensures.value) in
     record {
       answers = sym h.0;
       writes = ap (with_marks m) (ap (take D.laid) marks ∙ take_of_set (vec_items D.«open») D.laid i false c.if-run-self.false) ∙ sym h.1;

@@ -32,7 +32,7 @@ returns g c =
     let bulk = kind.bulk in
     let r : Run g.row.K.Denot = record { a = c.args.a; b = c.args.b; cost = c.args.cost } in
     let long : length (take D.laid (vec_items D.runs)) ≡ D.laid = length-take-le D.laid (vec_items D.runs) (omega arith) in
-    let z : below zero c.args.cost ≡ true = ap (λ x. below x c.args.cost) (sym c.zero.ensures) ∙ (sym c.is-below.ensures ∙ c.if-not-is-below.false) in
+    let z : below zero c.args.cost ≡ true = ap (λ x. below x c.args.cost) (sym c.zero.ensures) ∙ (sym c.is_below.ensures ∙ c.if-not-is_below.false) in
     let s : bulk c.args.cost ≤ 1000000 = omega (arith, c.bulk.ensures) in
     let h = taken kind m c.args.a c.args.b c.args.cost (omega arith) (omega arith) c.if-a-b.false z s (omega arith) in
     let rs : take (D.laid + 1) (set (vec_items D.runs) D.laid r) ≡ take D.laid (vec_items D.runs) ++ r ∷ [] = take_more_set (vec_items D.runs) D.laid r (omega arith) in

@@ -23,7 +23,7 @@ pub returns-then-places-at : goal.returns-then-places-at
 returns-then-places-at g c =
     let D = c.args.self.now in
     let O = D.outlets in
-    let p = c.place-of-at.result in
+    let p = c.place_of-at.result in
     let l = O.long in
     let f = O.few in
     let q : length (take O.count O.places) ≡ O.count = length-take-le O.count O.places (omega arith) in
@@ -35,12 +35,12 @@ pub returns-then-n-ge12 : goal.returns-then-n-ge12
 returns-then-n-ge12 g c =
     let D = c.args.self.now in
     let O = D.outlets in
-    let p = c.place-of-at.result in
+    let p = c.place_of-at.result in
     let l = O.long in
     let f = O.few in
     let ne : p < O.count → get_or O.places p 0 ≢ c.args.junction =
     λ m. elim c.else-at-n.branch [ else-at-n-via-then-at-n+else-places-at w ↦ w.if-places-at.false | else-at-n-via-else-at-n w ↦ absurd (let x = w.if-at-n.false in omega arith) ] in
-    let s = spot O.places O.count p c.args.junction (omega arith) c.place-of-at.ensures.within c.place-of-at.ensures.before c.place-of-at.ensures.stop ne in
+    let s = spot O.places O.count p c.args.junction (omega arith) c.place_of-at.ensures.within c.place_of-at.ensures.before c.place_of-at.ensures.stop ne in
     let q : length (take O.count O.places) ≡ O.count = length-take-le O.count O.places (omega arith) in
     let h = too_many (model_of D) c.args.junction c.if-junction-self.false (spot_absent O.places O.count p c.args.junction (omega arith) s O.rising) (let x = c.if-n-ge12.true in omega arith) in
     record { answers = sym h.0; writes = sym h.1; prices = λ q. q }
@@ -62,15 +62,15 @@ pub returns : goal.returns
 returns g c =
     let D = c.args.self.now in
     let O = D.outlets in
-    let p = c.place-of-at.result in
+    let p = c.place_of-at.result in
     let l = O.long in
     let f = O.few in
     let r = c.if-n-ge12.false in
     let ne : p < O.count → get_or O.places p 0 ≢ c.args.junction =
     λ m. elim c.else-at-n.branch [ else-at-n-via-then-at-n+else-places-at w ↦ w.if-places-at.false | else-at-n-via-else-at-n w ↦ absurd (let x = w.if-at-n.false in omega arith) ] in
-    let s = spot O.places O.count p c.args.junction (omega arith) c.place-of-at.ensures.within c.place-of-at.ensures.before c.place-of-at.ensures.stop ne in
-    let put : Put O.places c.put-in.new.row O.count p c.args.junction = record { fit = s.fit; room = omega arith; same = c.put-in.auto.row; below = c.put-in.ensures.below; here = c.put-in.ensures.here; above = c.put-in.ensures.above } in
+    let s = spot O.places O.count p c.args.junction (omega arith) c.place_of-at.ensures.within c.place_of-at.ensures.before c.place_of-at.ensures.stop ne in
+    let put : Put O.places c.put_in.new.row O.count p c.args.junction = record { fit = s.fit; room = omega arith; same = c.put_in.auto.row; below = c.put_in.ensures.below; here = c.put_in.ensures.here; above = c.put_in.ensures.above } in
     let q : length (take O.count O.places) ≡ O.count = length-take-le O.count O.places (omega arith) in
     let h = goes_in (model_of D) c.args.junction c.if-junction-self.false (spot_absent O.places O.count p c.args.junction (omega arith) s O.rising) (omega arith) in
-    let e = put_outlets O.places c.put-in.new.row O.count p c.args.junction put ∙ sym (spot_ins O.places O.count p c.args.junction (omega arith) s) in
+    let e = put_outlets O.places c.put_in.new.row O.count p c.args.junction put ∙ sym (spot_ins O.places O.count p c.args.junction (omega arith) s) in
     record { answers = sym h.0; writes = ap (with_outlets (model_of D)) e ∙ sym h.1; prices = λ q. q }

@@ -40,10 +40,10 @@ returns g c =
     let room = D.room in
     let lt : i < D.laid = omega arith in
     let long : length (take D.laid runs) ≡ D.laid = length-take-le D.laid runs (omega arith) in
-    let z : kind.below kind.zero cost ≡ true = ap (λ x. kind.below x cost) (sym c.zero.ensures) ∙ (sym c.is-below.ensures ∙ c.if-not-is-below.false) in
+    let z : kind.below kind.zero cost ≡ true = ap (λ x. kind.below x cost) (sym c.zero.ensures) ∙ (sym c.is_below.ensures ∙ c.if-not-is_below.false) in
     let s : kind.bulk cost ≤ 1000000 = omega (arith, c.bulk.ensures) in
     let h = repriced_taken kind m i cost (omega arith) z s in
-    let filled = with_items_is D.runs c.set-cost.new.runs (c.set-cost.auto.runs ∙ search rules) ∙ (c.set-cost.ensures (record { a = 0; b = 0; cost = cost }) ∙ ap (λ xs. set xs i (at_cost (get_or xs i (record { a = 0; b = 0; cost = cost })) cost)) c.deref-mut.ensures.value) in
+    let filled = with_items_is D.runs c.set_cost.new.runs (c.set_cost.auto.runs ∙ search rules) ∙ (c.set_cost.ensures (record { a = 0; b = 0; cost = cost }) ∙ ap (λ xs. set xs i (at_cost (get_or xs i (record { a = 0; b = 0; cost = cost })) cost)) c.deref-mut.ensures.value) in
     let rs = ap (take D.laid) filled ∙ take_of_set runs D.laid i (at_cost was cost) lt in
     let v : was ≡ get_or (take D.laid runs) i (record { a = 0; b = 0; cost = cost }) = sym (get_or-take D.laid runs i (record { a = 0; b = 0; cost = cost }) lt) in
     let e = rs ∙ (ap (λ r. set (take D.laid runs) i (at_cost r cost)) v ∙ sym (repriced_is (take D.laid runs) i cost (record { a = 0; b = 0; cost = cost }) (omega arith))) in
