@@ -17,4 +17,4 @@ returns g c =
     let n : length (take (V.junctions * 12 - 0) c.args.row.now) ≡ V.junctions * 12 - 0 = length-take-le (V.junctions * 12 - 0) c.args.row.now (omega arith) in
     let long : length c.settle.new.ds ≡ V.junctions * 12 = omega (arith, c.clear.auto.ds, c.set-outlets.auto.ds, c.settle.auto.ds) in
     take_at c.settle.new.ds _ (V.junctions * 12) long
-    ∙ measure_all g.row.K-Cost.kind (length V.runs.now) (round_arcs V.outlets.count (open_runs V.runs.now V.«open».now)) V.outlets.count V.outlets.places (length (take (V.junctions * 12 - 0) c.args.row.now)) (V.junctions * 12) c.clear.new.ds c.set-outlets.new.ds c.settle.new.ds c.clear.ensures (omega arith) c.set-outlets.ensures c.settle.ensures
+    ∙ measure_all g.K.Cost.kind (length V.runs.now) (round_arcs V.outlets.count (open_runs V.runs.now V.«open».now)) V.outlets.count V.outlets.places (length (take (V.junctions * 12 - 0) c.args.row.now)) (V.junctions * 12) c.clear.new.ds c.set-outlets.new.ds c.settle.new.ds c.clear.ensures (omega arith) c.set-outlets.ensures c.settle.ensures

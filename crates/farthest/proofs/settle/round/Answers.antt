@@ -6,7 +6,7 @@ use Rattle.farthest.proofs.settle.round.Goals as goal
 
 pub loop-i-preserved : goal.loop-i-preserved
 loop-i-preserved g c =
-    let kind = g.row.K-Cost.kind in
+    let kind = g.K.Cost.kind in
     let V = c.args.view.now in
     let n = V.outlets.count in
     let i = c.loop-i.i in
@@ -20,7 +20,7 @@ loop-i-preserved g c =
 
 pub returns : goal.returns
 returns g c =
-    let kind = g.row.K-Cost.kind in
+    let kind = g.K.Cost.kind in
     record {
       after = sym (round_all kind c.args.view.now.outlets.count c.args.view.now.runs.now c.args.view.now.«open».now c.loop-i.i c.loop-i.ds (omega arith)) ∙ c.loop-i.invariant.0;
       still = c.loop-i.invariant.1;

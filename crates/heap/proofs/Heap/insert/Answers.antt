@@ -28,8 +28,8 @@ rise-requires g c =
       sound = made_sound made (omega (arith, room h code s c.requires.inside c.requires.waits))
           (insert_found codes places h.len h.cap code c.requires.inside h.room.3 h.room.2 s.found c.requires.waits);
       inside = omega (arith, made.lens);
-      but = made_but_at made g.row.K-Cost.kind.below h.len
-          (λ d. insert_but codes places h.len h.cap code c.requires.inside h.room.3 h.room.2 s.found c.requires.waits h.keys.now c.args.key g.row.K-Cost.kind.below d (c.requires.good.ordered d));
+      but = made_but_at made g.K.Cost.kind.below h.len
+          (λ d. insert_but codes places h.len h.cap code c.requires.inside h.room.3 h.room.2 s.found c.requires.waits h.keys.now c.args.key g.K.Cost.kind.below d (c.requires.good.ordered d));
     }
 
 pub returns : goal.returns
@@ -50,5 +50,5 @@ returns g c =
           c.rise.ensures.kept.waits ∙
           made_waits made ∙
           insert_made codes places h.len h.cap code c.requires.inside h.room.3 h.room.2 c.requires.good.sound.found c.requires.waits keys key h.room.1 ∙
-          ap (λ o. set (heap_waits h) code (lowered g.row.K-Cost.kind.below o key)) (sym old);
+          ap (λ o. set (heap_waits h) code (lowered g.K.Cost.kind.below o key)) (sym old);
     }

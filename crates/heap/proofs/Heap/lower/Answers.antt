@@ -27,7 +27,7 @@ rise-requires g c =
     record {
       sound = made_sound made sound.within sound.found;
       inside = made_as made (λ cap n ks cs ps. at < n) inside;
-      but = made_but_at made g.row.K-Cost.kind.below at
+      but = made_but_at made g.K.Cost.kind.below at
           (λ d.
           lower_but keys codes places h.len h.cap code key g.met.K.Cost.laws d at room
           (sym (c.if-falls.ensures d)) sound.found inside (eqb-true (get_or codes at 0) code parts.1) (c.requires.good.ordered d));
@@ -45,7 +45,7 @@ returns-then-falls g c =
     let made = c.set-key.ensures in
     let room : code < length keys = omega (arith, c.requires.inside, h.room.1) in
     let old : get_or (heap_waits h) code None ≡ Some (get_or keys code key) = at_waits h code c.requires.inside ∙ cond-true (stands h.len codes places code) (slice_get keys code) None c.requires.waits ∙ slice_get-get_or keys code key room in
-    let new : Some key ≡ lowered g.row.K-Cost.kind.below (Some (get_or keys code key)) key = ap (λ b. cond b (Some key) (Some (get_or keys code key))) (c.if-falls.ensures key) in
+    let new : Some key ≡ lowered g.K.Cost.kind.below (Some (get_or keys code key)) key = ap (λ b. cond b (Some key) (Some (get_or keys code key))) (c.if-falls.ensures key) in
     record {
       good = c.rise.ensures.good;
       lends = c.rise.ensures.kept.lends ∙ made.lends;
@@ -53,7 +53,7 @@ returns-then-falls g c =
           c.rise.ensures.kept.waits ∙
           made_waits made ∙
           lower_made keys codes places h.len h.cap code key c.requires.inside h.room.1 c.requires.waits ∙
-          ap (set (heap_waits h) code) (new ∙ ap (λ o. lowered g.row.K-Cost.kind.below o key) (sym old));
+          ap (set (heap_waits h) code) (new ∙ ap (λ o. lowered g.K.Cost.kind.below o key) (sym old));
     }
 
 pub returns-else-falls : goal.returns-else-falls
@@ -66,9 +66,9 @@ returns-else-falls g c =
     let key = c.args.key in
     let room : code < length keys = omega (arith, c.requires.inside, h.room.1) in
     let old : get_or (heap_waits h) code None ≡ Some (get_or keys code key) = at_waits h code c.requires.inside ∙ cond-true (stands h.len codes places code) (slice_get keys code) None c.requires.waits ∙ slice_get-get_or keys code key room in
-    let same : Some (get_or keys code key) ≡ lowered g.row.K-Cost.kind.below (Some (get_or keys code key)) key = ap (λ b. cond b (Some key) (Some (get_or keys code key))) (c.if-falls.ensures key) in
+    let same : Some (get_or keys code key) ≡ lowered g.K.Cost.kind.below (Some (get_or keys code key)) key = ap (λ b. cond b (Some key) (Some (get_or keys code key))) (c.if-falls.ensures key) in
     record {
       good = c.requires.good;
       lends = refl;
-      waits = sym (ap (set (heap_waits h) code) (ap (λ o. lowered g.row.K-Cost.kind.below o key) old ∙ sym same ∙ sym old) ∙ set-get_or (heap_waits h) code None);
+      waits = sym (ap (set (heap_waits h) code) (ap (λ o. lowered g.K.Cost.kind.below o key) old ∙ sym same ∙ sym old) ∙ set-get_or (heap_waits h) code None);
     }

@@ -16,8 +16,8 @@ sink-requires g c =
     let found = c.requires.sound.found in
     record {
       sound = made_sound made (omega (arith, c.requires.sound.within)) (remove_found codes places h.len h.cap pos h.room.3 coded found);
-      but = made_but_under made g.row.K-Cost.kind.below 0
-          (λ d. remove_but codes places h.len h.cap pos h.room.3 coded found (before g.row.K-Cost.kind.below h.keys.now d) (c.requires.ordered d));
+      but = made_but_under made g.K.Cost.kind.below 0
+          (λ d. remove_but codes places h.len h.cap pos h.room.3 coded found (before g.K.Cost.kind.below h.keys.now d) (c.requires.ordered d));
     }
 
 pub returns-then-self-gt0 : goal.returns-then-self-gt0
@@ -43,5 +43,5 @@ pub returns-else-self-gt0 : goal.returns-else-self-gt0
 returns-else-self-gt0 g c = record {
   good = c.requires;
   lends = refl;
-  waits = λ r least. taken_none g.row.K-Cost.kind.below c.args.self.now c.requires.sound c.if-self-gt0.false r least;
+  waits = λ r least. taken_none g.K.Cost.kind.below c.args.self.now c.requires.sound c.if-self-gt0.false r least;
 }

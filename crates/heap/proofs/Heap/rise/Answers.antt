@@ -35,6 +35,6 @@ returns-then-not-precedes g c =
     let inv = c.loop-at.invariant in
     record {
       good = rise_end g.met.K.Cost.laws h c.loop-at.at inv.0 inv.2
-          (λ pos. subst (λ u. Tells g.row.K-Cost.kind.below h.keys.now (at_place h c.loop-at.at) (at_place h u) false) c.place-over-up.ensures c.if-not-precedes.ensures);
+          (λ pos. subst (λ u. Tells g.K.Cost.kind.below h.keys.now (at_place h c.loop-at.at) (at_place h u) false) c.place-over-up.ensures c.if-not-precedes.ensures);
       kept = inv.3;
     }

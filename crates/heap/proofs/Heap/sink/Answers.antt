@@ -14,7 +14,7 @@ loop-at-preserved g c =
     let inv = c.loop-at.invariant in
     let made = c.swap.ensures in
     let room : at + at + 1 < h.len = omega (arith, c.loop-at-test.true) in
-    let child : LeastChild g.row.K-Cost.kind.below h at down = chosen_least g.met.K.Cost.laws h at down room c.child-next.ensures in
+    let child : LeastChild g.K.Cost.kind.below h at down = chosen_least g.met.K.Cost.laws h at down room c.child-next.ensures in
     let here : at < h.len = omega (arith, room) in
     let kept : Kept h next = swap_kept h next at down inv.0 here child.inside made in (
       swap_sound h next at down inv.0 here child.inside made,

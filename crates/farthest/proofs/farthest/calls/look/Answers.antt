@@ -7,7 +7,7 @@ use Rattle.farthest.proofs.farthest.calls.look.Goals.{then-not-is-in, else-not-i
 
 pub loop-j-preserved : goal.loop-j-preserved
 loop-j-preserved g c =
-    let kind = g.row.K-Cost.kind in
+    let kind = g.K.Cost.kind in
     elim c.if-not-is-in.branch [
       | then-not-is-in w ↦
           far_more kind (in_row c.args.ds.now) c.args.v c.args.set c.loop-j.j c.loop-j.best _ c.loop-j.invariant

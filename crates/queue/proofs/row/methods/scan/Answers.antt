@@ -8,7 +8,7 @@ pub loop-i-preserved : goal.loop-i-preserved
 loop-i-preserved g c =
     let ks = c.args.places.now in
     let i = c.loop-i.i in
-    let below = g.row.K-Cost.kind.below in
+    let below = g.K.Cost.kind.below in
     let x = c.index-places-i.result in
     let read : x ≡ get_or ks i None = get_or_read ks i x c.loop-i-test.true c.index-places-i.is None in
     elim c.match-place.branch [

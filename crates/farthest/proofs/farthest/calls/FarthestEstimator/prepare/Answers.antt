@@ -11,7 +11,7 @@ use Rattle.farthest.proofs.farthest.calls.FarthestEstimator.prepare.Goals as goa
 pub returns : goal.returns
 returns g c =
     let V = c.args.view.now in
-    let kind = g.row.K-Cost.kind in
+    let kind = g.K.Cost.kind in
     let laws = g.met.K.Cost.laws in
     let k = V.outlets.count in
     let ps = V.outlets.places in
