@@ -6,21 +6,17 @@ use Rattle.district.specs.Model.{model_of, with_run}
 use Rattle.district.proofs.Laying.{each_more, of_rows, taken, priced_more}
 use Rattle.district.proofs.district.District.lay.Goals as goal
 
-pub invariant-of-self : goal.invariant-of-self
-invariant-of-self g c =
-    let D = c.args.self.now in (
-      D.many,
-      (
-        search rules,
-        (
-          search rules,
-          (
-            search rules,
-            (each_more (λ r. (r.a < D.junctions) × (r.b < D.junctions)) (vec_items D.runs) D.laid _ (omega arith) (omega arith, omega arith) D.ends, (D.inside, tt)),
-          ),
-        ),
-      ),
-    )
+pub invariant_of-self : goal.invariant_of-self
+invariant_of-self g c =
+    let D = c.args.self.now in
+    record {
+      many = D.many;
+      few = search rules;
+      room = search rules;
+      marks = search rules;
+      ends = each_more (λ r. (r.a < D.junctions) × (r.b < D.junctions)) (vec_items D.runs) D.laid _ (omega arith) (omega arith, omega arith) D.ends;
+      inside = D.inside;
+    }
 
 pub returns : goal.returns
 returns g c =

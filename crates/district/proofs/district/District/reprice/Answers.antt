@@ -6,27 +6,20 @@ use Rattle.district.specs.Model.{model_of, repriced, with_runs}
 use Rattle.district.proofs.Changing.{take_of_set, at_cost, ends_repriced, repriced_is, repriced_taken, priced_set}
 use Rattle.district.proofs.district.District.reprice.Goals as goal
 
-pub invariant-of-self : goal.invariant-of-self
-invariant-of-self g c =
+pub invariant_of-self : goal.invariant_of-self
+invariant_of-self g c =
     let D = c.args.self.now in
     let i = c.args.run in
     let cost = c.args.cost in
-    let filled = with_items_is D.runs c.set-cost.new.runs (c.set-cost.auto.runs ∙ search rules) in (
-      D.many,
-      (
-        D.few,
-        (
-          D.room,
-          (
-            D.marks,
-            (
-              ends_repriced (vec_items D.runs) _ D.laid D.junctions i cost (let room = D.room in omega arith) (λ d. filled ∙ (c.set-cost.ensures d ∙ ap (λ xs. set xs i (at_cost (get_or xs i d) cost)) c.deref-mut.ensures.value)) D.ends,
-              (D.inside, tt),
-            ),
-          ),
-        ),
-      ),
-    )
+    let filled = with_items_is D.runs c.set_cost.new.runs (c.set_cost.auto.runs ∙ search rules) in
+    record {
+      many = D.many;
+      few = D.few;
+      room = D.room;
+      marks = D.marks;
+      ends = ends_repriced (vec_items D.runs) _ D.laid D.junctions i cost (let room = D.room in omega arith) (λ d. filled ∙ (c.set_cost.ensures d ∙ ap (λ xs. set xs i (at_cost (get_or xs i d) cost)) c.deref_mut.ensures.value)) D.ends;
+      inside = D.inside;
+    }
 
 pub returns : goal.returns
 returns g c =
@@ -43,7 +36,7 @@ returns g c =
     let z : kind.below kind.zero cost ≡ true = ap (λ x. kind.below x cost) (sym c.zero.ensures) ∙ (sym c.is_below.ensures ∙ c.if-not-is_below.false) in
     let s : kind.bulk cost ≤ 1000000 = omega (arith, c.bulk.ensures) in
     let h = repriced_taken kind m i cost (omega arith) z s in
-    let filled = with_items_is D.runs c.set_cost.new.runs (c.set_cost.auto.runs ∙ search rules) ∙ (c.set_cost.ensures (record { a = 0; b = 0; cost = cost }) ∙ ap (λ xs. set xs i (at_cost (get_or xs i (record { a = 0; b = 0; cost = cost })) cost)) c.deref-mut.ensures.value) in
+    let filled = with_items_is D.runs c.set_cost.new.runs (c.set_cost.auto.runs ∙ search rules) ∙ (c.set_cost.ensures (record { a = 0; b = 0; cost = cost }) ∙ ap (λ xs. set xs i (at_cost (get_or xs i (record { a = 0; b = 0; cost = cost })) cost)) c.deref_mut.ensures.value) in
     let rs = ap (take D.laid) filled ∙ take_of_set runs D.laid i (at_cost was cost) lt in
     let v : was ≡ get_or (take D.laid runs) i (record { a = 0; b = 0; cost = cost }) = sym (get_or-take D.laid runs i (record { a = 0; b = 0; cost = cost }) lt) in
     let e = rs ∙ (ap (λ r. set (take D.laid runs) i (at_cost r cost)) v ∙ sym (repriced_is (take D.laid runs) i cost (record { a = 0; b = 0; cost = cost }) (omega arith))) in
