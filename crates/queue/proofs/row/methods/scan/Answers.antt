@@ -13,7 +13,7 @@ loop-i-preserved g c =
     let read : x ≡ get_or ks i None = get_or_read ks i x c.loop-i-test.true c.index-places-i.is None in
     elim c.match-place.branch [
       | in-Some w ↦ subst (LeastTo below ks (i + 1)) (sym (w.best-is ∙ w.pick-best.ensures)) (least_to_more g.met.K.Cost.laws ks i _ c.loop-i.best (sym read ∙ w.in-Some.is) c.loop-i.invariant)
-      | in_default w ↦ subst (LeastTo below ks (i + 1)) (sym w.best-is) (least_to_skip below ks i c.loop-i.best (sym read ∙ w.in-default.is) c.loop-i.invariant)
+      | in_default w ↦ subst (LeastTo below ks (i + 1)) (sym w.best-is) (least_to_skip below ks i c.loop-i.best (sym read ∙ w.in_default.is) c.loop-i.invariant)
     ]
 
 pub returns : goal.returns
