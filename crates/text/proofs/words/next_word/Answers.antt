@@ -18,6 +18,6 @@ returns c =
     let rest = c.split_at.result.1.now in
     let some : 0 < c.run_of-end.result = omega arith in (
       sym (skipped _ _ skips.within skips.before) ∙ sym (ap words c.split_at.ensures.back) ∙ worded rest _ some ends.within ends.before ends.stop
-          ∙ ap (λ w. w ∷ words (drop c.run_of-end.result rest)) (sym c.split-at-2.ensures.front) ∙ ap (λ l. c.split-at-2.result.0.now ∷ words l) (sym c.split-at-2.ensures.back),
-      omega (arith, c.split_at.ensures.back_len, c.split-at-2.ensures.back_len),
+          ∙ ap (λ w. w ∷ words (drop c.run_of-end.result rest)) (sym c.split_at-2.ensures.front) ∙ ap (λ l. c.split_at-2.result.0.now ∷ words l) (sym c.split_at-2.ensures.back),
+      omega (arith, c.split_at.ensures.back_len, c.split_at-2.ensures.back_len),
     )
