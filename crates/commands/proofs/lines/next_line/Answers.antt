@@ -4,17 +4,17 @@ use Rattle.commands.specs.Words.{lines}
 use Rattle.commands.proofs.Splitting.{lined, past}
 use Rattle.commands.proofs.lines.next_line.Goals as goal
 
-pub returns-then-is-empty : goal.returns-then-is-empty
-returns-then-is-empty c = ap lines (nil_from_length _ (true-eqb _ 0 c.if-is-empty.ensures))
+pub returns-then-is_empty : goal.returns-then-is_empty
+returns-then-is_empty c = ap lines (nil_from_length _ (true-eqb _ 0 c.if-is_empty.ensures))
 
 pub returns : goal.returns
 returns c =
     let text = c.args.text.now in
-    let end = c.line-end-end.result in
-    let found = c.line-end-end.ensures in
-    let line = c.split-at.result.0.now in
-    let some : 0 < length text = omega (arith, false-eqb _ 0 c.if-is-empty.ensures) in
-    let rest = c.split-at-2.ensures.back ∙ ap (λ n. drop n text) c.min.ensures ∙ past text end found.within in (
-      lined text end some found.within found.before found.stop ∙ ap (λ l. l ∷ lines (drop (suc end) text)) (sym c.split-at.ensures.front) ∙ ap (λ l. line ∷ lines l) (sym rest),
-      omega (arith, c.split-at-2.ensures.back_len, c.min.ensures),
+    let end = c.line_end-end.result in
+    let found = c.line_end-end.ensures in
+    let line = c.split_at.result.0.now in
+    let some : 0 < length text = omega (arith, false-eqb _ 0 c.if-is_empty.ensures) in
+    let rest = c.split_at-2.ensures.back ∙ ap (λ n. drop n text) c.min.ensures ∙ past text end found.within in (
+      lined text end some found.within found.before found.stop ∙ ap (λ l. l ∷ lines (drop (suc end) text)) (sym c.split_at.ensures.front) ∙ ap (λ l. line ∷ lines l) (sym rest),
+      omega (arith, c.split_at-2.ensures.back_len, c.min.ensures),
     )

@@ -7,8 +7,8 @@ pub loop-name-preserved : goal.loop-name-preserved
 loop-name-preserved c =
     let said = c.loop-name.said in
     let name = c.in-Some.name.now in
-    let rest = c.in-Some-next-word.left.now in
+    let rest = c.in-Some-next_word.left.now in
     let first = c.in-Some.ensures.0 in
-    let second = c.in-Some-next-word.ensures.0 in
-    let part = sym c.read-part.ensures ∙ c.in-ok-said.was in
+    let second = c.in-Some-next_word.ensures.0 in
+    let part = sym c.read_part.ensures ∙ c.in_ok-said.was in
     sym (ap (λ o. bind o (parts (words rest))) part) ∙ sym (ap (λ ws. parts (name ∷ ws) said) second) ∙ sym (ap (λ ws. parts ws said) first) ∙ c.loop-name.invariant

@@ -4,5 +4,5 @@ use Rattle.commands.proofs.words.without_comment.Goals as goal
 
 pub returns : goal.returns
 returns c =
-    let found = c.comment-start.ensures in
-    c.split-at.ensures.front ∙ cut 35 _ _ found.within found.before found.stop
+    let found = c.comment_start.ensures in
+    c.split_at.ensures.front ∙ cut 35 _ _ found.within found.before found.stop
