@@ -9,7 +9,7 @@ returns g c =
     let keys = c.args.keys.now in
     let codes = c.args.codes.now in
     let places = c.args.places.now in
-    let cap = c.codes-held-cap.result in
+    let cap = c.codes_held-cap.result in
     let is : cap ≡ codes_held keys codes places = omega arith in
     record {
       good = empty_good _ _ refl;

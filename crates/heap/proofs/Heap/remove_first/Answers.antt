@@ -10,7 +10,7 @@ sink-requires g c =
     let h = c.args.self.now in
     let codes = h.codes.now in
     let places = h.places.now in
-    let made = c.last-to-first.ensures in
+    let made = c.last_to_first.ensures in
     let pos = c.if-self-gt0.true in
     let coded : h.len ≤ length codes = omega (arith, c.requires.sound.within, h.room.2) in
     let found = c.requires.sound.found in
@@ -26,7 +26,7 @@ returns-then-self-gt0 g c =
     let h = c.args.self.now in
     let codes = h.codes.now in
     let places = h.places.now in
-    let made = c.last-to-first.ensures in
+    let made = c.last_to_first.ensures in
     let pos = c.if-self-gt0.true in
     let coded : h.len ≤ length codes = omega (arith, c.requires.sound.within, h.room.2) in
     record {

@@ -10,14 +10,14 @@ loop-at-preserved g c =
     let h = c.loop-at.self in
     let next = c.swap.new.self in
     let at = c.loop-at.at in
-    let up = c.place-over-up.result in
+    let up = c.place_over-up.result in
     let inv = c.loop-at.invariant in
     let made = c.swap.ensures in
-    let over : up < h.len = omega (arith, inv.1, c.loop-at-test.true, c.place-over-up.ensures) in
+    let over : up < h.len = omega (arith, inv.1, c.loop-at-test.true, c.place_over-up.ensures) in
     let kept : Kept h next = swap_kept h next at up inv.0 inv.1 over made in (
       swap_sound h next at up inv.0 inv.1 over made,
       omega (arith, kept.lens, over),
-      rise_by g.met.K.Cost.laws h next at up c.place-over-up.ensures c.loop-at-test.true inv.1 inv.0 (swap_codes h next at up inv.0 inv.1 over made) kept c.if-not-precedes.ensures inv.2,
+      rise_by g.met.K.Cost.laws h next at up c.place_over-up.ensures c.loop-at-test.true inv.1 inv.0 (swap_codes h next at up inv.0 inv.1 over made) kept c.if-not-precedes.ensures inv.2,
       kept_trans c.args.self.now h next inv.3 kept,
     )
 
@@ -35,6 +35,6 @@ returns-then-not-precedes g c =
     let inv = c.loop-at.invariant in
     record {
       good = rise_end g.met.K.Cost.laws h c.loop-at.at inv.0 inv.2
-          (λ pos. subst (λ u. Tells g.K.Cost.kind.below h.keys.now (at_place h c.loop-at.at) (at_place h u) false) c.place-over-up.ensures c.if-not-precedes.ensures);
+          (λ pos. subst (λ u. Tells g.K.Cost.kind.below h.keys.now (at_place h c.loop-at.at) (at_place h u) false) c.place_over-up.ensures c.if-not-precedes.ensures);
       kept = inv.3;
     }
