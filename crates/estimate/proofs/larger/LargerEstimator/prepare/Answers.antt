@@ -31,9 +31,9 @@ returns g c =
       made = λ e. record {
         first = A.bound c.prepare.new.self;
         second = B.bound c.prepare-2.new.self;
-        first_made = went.made c.in-ok-prepare.was;
+        first_made = went.made c.in_ok-prepare.was;
         second_made = went-2.made e;
         is = λ v I. refl;
       };
-      lawful = λ e. greater_prepared g.met.A.Cost.Cost.laws l (A.bound c.prepare.new.self) (B.bound c.prepare-2.new.self) (went.lawful c.in-ok-prepare.was) (went-2.lawful e);
+      lawful = λ e. greater_prepared g.met.A.Cost.Cost.laws l (A.bound c.prepare.new.self) (B.bound c.prepare-2.new.self) (went.lawful c.in_ok-prepare.was) (went-2.lawful e);
     }

@@ -10,5 +10,5 @@ returns g c = record {
   room = refl;
   keeps = λ _. refl;
   made = λ _ v I. refl;
-  lawful = λ _. silent_prepared g.K.Cost.kind g.met.K.Cost.laws (layout_of c.args.-view.now);
+  lawful = λ _. silent_prepared g.K.Cost.kind g.met.K.Cost.laws (layout_of c.args._view.now);
 }
