@@ -20,8 +20,8 @@ fn refused(answer: Result<(), Refusal>) -> u8 {
 
 // The codes take their place in the queue, one after the other.
 fn put_two<Q: Queue>(queue: &mut Q, a: usize, cost_a: Q::Cost, b: usize, cost_b: Q::Cost)
-    requires { ok queue.old }
-    ensures { ok queue.new }
+    requires { Q.ok queue.old }
+    ensures { Q.ok queue.new }
 {
     let _ = (*queue).put(a, cost_a);
     let _ = (*queue).put(b, cost_b);
@@ -29,8 +29,8 @@ fn put_two<Q: Queue>(queue: &mut Q, a: usize, cost_a: Q::Cost, b: usize, cost_b:
 
 // The code that is taken, and 99 where none waits.
 fn next<Q: Queue>(queue: &mut Q) -> usize
-    requires { ok queue.old }
-    ensures { ok queue.new }
+    requires { Q.ok queue.old }
+    ensures { Q.ok queue.new }
 {
     match (*queue).take() {
         None => 99,
@@ -40,8 +40,8 @@ fn next<Q: Queue>(queue: &mut Q) -> usize
 
 // The next three codes.
 fn next_three<Q: Queue>(queue: &mut Q) -> (usize, usize, usize)
-    requires { ok queue.old }
-    ensures { ok queue.new }
+    requires { Q.ok queue.old }
+    ensures { Q.ok queue.new }
 {
     let first = next(&mut *queue);
     let second = next(&mut *queue);

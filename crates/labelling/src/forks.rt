@@ -31,16 +31,16 @@ fn offer_fork<Q: Queue, E: Estimator<Cost = Q::Cost>>(
     from: Place<Q::Cost>,
     set: u16,
 )
-    requires ready { Ready (rule Q.Cost.Cost.kind (bound estimator.now) size) (tables labels.old ways.old) (waiting queue.old) }
-    requires good { ok queue.old }
+    requires ready { Ready (rule Q.Cost.Cost.kind (E.bound estimator.now) size) (tables labels.old ways.old) (Q.waiting queue.old) }
+    requires good { Q.ok queue.old }
     requires junction { from.v < size.junctions }
     requires outlets { from.set < size.sets }
     requires others { set < size.sets }
     requires closed { Closed size.sets }
-    ensures ready { Ready (rule Q.Cost.Cost.kind (bound estimator.now) size) (tables labels.new ways.new) (waiting queue.new) }
-    ensures good { ok queue.new }
-    ensures lends { standing (Q.Queue.lender queue.new) (waiting queue.new) ≡ standing (Q.Queue.lender queue.old) (waiting queue.old) }
-    ensures same { tables labels.new ways.new ≡ fork (rule Q.Cost.Cost.kind (bound estimator.now) size) from set (tables labels.old ways.old) }
+    ensures ready { Ready (rule Q.Cost.Cost.kind (E.bound estimator.now) size) (tables labels.new ways.new) (Q.waiting queue.new) }
+    ensures good { Q.ok queue.new }
+    ensures lends { standing (Q.Queue.lender queue.new) (Q.waiting queue.new) ≡ standing (Q.Queue.lender queue.old) (Q.waiting queue.old) }
+    ensures same { tables labels.new ways.new ≡ fork (rule Q.Cost.Cost.kind (E.bound estimator.now) size) from set (tables labels.old ways.old) }
 {
     if set == 0 {
         return;
@@ -78,15 +78,15 @@ pub(crate) fn offer_forks<Q: Queue, E: Estimator<Cost = Q::Cost>>(
     size: Size,
     from: Place<Q::Cost>,
 )
-    requires ready { Ready (rule Q.Cost.Cost.kind (bound estimator.now) size) (tables labels.old ways.old) (waiting queue.old) }
-    requires good { ok queue.old }
+    requires ready { Ready (rule Q.Cost.Cost.kind (E.bound estimator.now) size) (tables labels.old ways.old) (Q.waiting queue.old) }
+    requires good { Q.ok queue.old }
     requires junction { from.v < size.junctions }
     requires outlets { from.set < size.sets }
     requires closed { Closed size.sets }
-    ensures ready { Ready (rule Q.Cost.Cost.kind (bound estimator.now) size) (tables labels.new ways.new) (waiting queue.new) }
-    ensures good { ok queue.new }
-    ensures lends { standing (Q.Queue.lender queue.new) (waiting queue.new) ≡ standing (Q.Queue.lender queue.old) (waiting queue.old) }
-    ensures same { tables labels.new ways.new ≡ forks_offered (rule Q.Cost.Cost.kind (bound estimator.now) size) from (tables labels.old ways.old) }
+    ensures ready { Ready (rule Q.Cost.Cost.kind (E.bound estimator.now) size) (tables labels.new ways.new) (Q.waiting queue.new) }
+    ensures good { Q.ok queue.new }
+    ensures lends { standing (Q.Queue.lender queue.new) (Q.waiting queue.new) ≡ standing (Q.Queue.lender queue.old) (Q.waiting queue.old) }
+    ensures same { tables labels.new ways.new ≡ forks_offered (rule Q.Cost.Cost.kind (E.bound estimator.now) size) from (tables labels.old ways.old) }
 {
     let mut set = next_apart(from.set, 0);
     while set < size.sets {

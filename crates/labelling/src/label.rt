@@ -66,15 +66,15 @@ fn offer_starts<Q: Queue, E: Estimator<Cost = Q::Cost>>(
     size: Size,
     outlets: &[Junction],
 )
-    requires ready { Ready (rule Q.Cost.Cost.kind (bound estimator.now) size) (tables labels.old ways.old) (waiting queue.old) }
-    requires good { ok queue.old }
+    requires ready { Ready (rule Q.Cost.Cost.kind (E.bound estimator.now) size) (tables labels.old ways.old) (Q.waiting queue.old) }
+    requires good { Q.ok queue.old }
     requires junctions { Within size.junctions outlets.now }
     requires few { length outlets.now < 16 }
     requires sets { size.sets ≡ 2 ^ length outlets.now }
-    ensures ready { Ready (rule Q.Cost.Cost.kind (bound estimator.now) size) (tables labels.new ways.new) (waiting queue.new) }
-    ensures good { ok queue.new }
-    ensures lends { standing (Q.Queue.lender queue.new) (waiting queue.new) ≡ standing (Q.Queue.lender queue.old) (waiting queue.old) }
-    ensures same { tables labels.new ways.new ≡ started (rule Q.Cost.Cost.kind (bound estimator.now) size) 0 outlets.now (tables labels.old ways.old) }
+    ensures ready { Ready (rule Q.Cost.Cost.kind (E.bound estimator.now) size) (tables labels.new ways.new) (Q.waiting queue.new) }
+    ensures good { Q.ok queue.new }
+    ensures lends { standing (Q.Queue.lender queue.new) (Q.waiting queue.new) ≡ standing (Q.Queue.lender queue.old) (Q.waiting queue.old) }
+    ensures same { tables labels.new ways.new ≡ started (rule Q.Cost.Cost.kind (E.bound estimator.now) size) 0 outlets.now (tables labels.old ways.old) }
 {
     for (i, outlet) in outlets.iter().enumerate() {
         offer(
@@ -110,15 +110,15 @@ fn label_from<Q: Queue, E: Estimator<Cost = Q::Cost>>(
     requires sets { size.sets ≡ 2 ^ length others.now }
     requires labels { codes size ≤ length labels.old }
     requires ways { codes size ≤ length ways.old }
-    requires queue { codes size ≤ length (waiting queue.old) }
+    requires queue { codes size ≤ length (Q.waiting queue.old) }
     requires junctions { Within size.junctions others.now }
     requires ends { Ends size.junctions runs.now }
     requires marked { length runs.now ≤ length «open».now }
     requires numbered { length runs.now ≤ 2 ^ 16 }
-    ensures ready { Ready (rule Q.Cost.Cost.kind (bound estimator.now) size) (tables labels.new ways.new) (waiting queue.new) }
-    ensures good { ok queue.new }
-    ensures lends { standing (Q.Queue.lender queue.new) (waiting queue.new) ≡ standing (Q.Queue.lender queue.old) (waiting queue.old) }
-    ensures same { record { ending = result; left = tables labels.new ways.new } ≡ labelled (rule Q.Cost.Cost.kind (bound estimator.now) size) «open».now runs.now (code_of size root (size.sets - 1)) limit 0 (started (rule Q.Cost.Cost.kind (bound estimator.now) size) 0 others.now (blank (rule Q.Cost.Cost.kind (bound estimator.now) size) (tables labels.old ways.old))) }
+    ensures ready { Ready (rule Q.Cost.Cost.kind (E.bound estimator.now) size) (tables labels.new ways.new) (Q.waiting queue.new) }
+    ensures good { Q.ok queue.new }
+    ensures lends { standing (Q.Queue.lender queue.new) (Q.waiting queue.new) ≡ standing (Q.Queue.lender queue.old) (Q.waiting queue.old) }
+    ensures same { record { ending = result; left = tables labels.new ways.new } ≡ labelled (rule Q.Cost.Cost.kind (E.bound estimator.now) size) «open».now runs.now (code_of size root (size.sets - 1)) limit 0 (started (rule Q.Cost.Cost.kind (E.bound estimator.now) size) 0 others.now (blank (rule Q.Cost.Cost.kind (E.bound estimator.now) size) (tables labels.old ways.old))) }
 {
     let count = size.codes();
     queue.clear();
@@ -141,12 +141,12 @@ pub fn label_view<Q: Queue, E: Estimator<Cost = Q::Cost>>(
     view: &View<'_, Q::Cost>,
     limit: u32,
 ) -> Result<Ending<Q::Cost>, Refusal>
-    ensures asks { Asked (room_answer (layout_of view.now) (min (length labels.old) (length ways.old)) (length (waiting queue.old))) result }
-    ensures lends { standing (Q.Queue.lender queue.new) (waiting queue.new) ≡ standing (Q.Queue.lender queue.old) (waiting queue.old) }
+    ensures asks { Asked (room_answer (layout_of view.now) (min (length labels.old) (length ways.old)) (length (Q.waiting queue.old))) result }
+    ensures lends { standing (Q.Queue.lender queue.new) (Q.waiting queue.new) ≡ standing (Q.Queue.lender queue.old) (Q.waiting queue.old) }
     ensures labels { MatchResult result
-        (λ e. (record { ending = e; left = tables labels.new ways.new } ≡ labelling Q.Cost.Cost.kind (bound estimator.now) (layout_of view.now) limit (tables labels.old ways.old))
-        × Ready (rule_of Q.Cost.Cost.kind (bound estimator.now) (layout_of view.now)) (tables labels.new ways.new) (waiting queue.new)
-        × ok queue.new)
+        (λ e. (record { ending = e; left = tables labels.new ways.new } ≡ labelling Q.Cost.Cost.kind (E.bound estimator.now) (layout_of view.now) limit (tables labels.old ways.old))
+        × Ready (rule_of Q.Cost.Cost.kind (E.bound estimator.now) (layout_of view.now)) (tables labels.new ways.new) (Q.waiting queue.new)
+        × Ok queue.new)
         (λ _. (tables labels.new ways.new ≡ tables labels.old ways.old) × (queue.new ≡ queue.old)) }
 {
     let size = room(view, labels.len().min(ways.len()), (*queue).capacity())?;

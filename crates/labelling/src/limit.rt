@@ -39,16 +39,16 @@ pub(crate) fn take_turns<Q: Queue, E: Estimator<Cost = Q::Cost>>(
     goal: usize,
     limit: u32,
 ) -> Ending<Q::Cost>
-    requires ready { Ready (rule Q.Cost.Cost.kind (bound estimator.now) size) (tables labels.old ways.old) (waiting queue.old) }
-    requires good { ok queue.old }
+    requires ready { Ready (rule Q.Cost.Cost.kind (E.bound estimator.now) size) (tables labels.old ways.old) (Q.waiting queue.old) }
+    requires good { Q.ok queue.old }
     requires ends { Ends size.junctions runs.now }
     requires marked { length runs.now ≤ length «open».now }
     requires numbered { length runs.now ≤ 2 ^ 16 }
     requires closed { Closed size.sets }
-    ensures ready { Ready (rule Q.Cost.Cost.kind (bound estimator.now) size) (tables labels.new ways.new) (waiting queue.new) }
-    ensures good { ok queue.new }
-    ensures lends { standing (Q.Queue.lender queue.new) (waiting queue.new) ≡ standing (Q.Queue.lender queue.old) (waiting queue.old) }
-    ensures same { record { ending = result; left = tables labels.new ways.new } ≡ labelled (rule Q.Cost.Cost.kind (bound estimator.now) size) «open».now runs.now goal limit 0 (tables labels.old ways.old) }
+    ensures ready { Ready (rule Q.Cost.Cost.kind (E.bound estimator.now) size) (tables labels.new ways.new) (Q.waiting queue.new) }
+    ensures good { Q.ok queue.new }
+    ensures lends { standing (Q.Queue.lender queue.new) (Q.waiting queue.new) ≡ standing (Q.Queue.lender queue.old) (Q.waiting queue.old) }
+    ensures same { record { ending = result; left = tables labels.new ways.new } ≡ labelled (rule Q.Cost.Cost.kind (E.bound estimator.now) size) «open».now runs.now goal limit 0 (tables labels.old ways.old) }
 {
     let mut turns = 0;
     let outcome = loop {

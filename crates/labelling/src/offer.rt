@@ -29,14 +29,14 @@ pub(crate) fn offer<Q: Queue, E: Estimator<Cost = Q::Cost>>(
     to: Place<Q::Cost>,
     back: Back,
 )
-    requires ready { Ready (rule Q.Cost.Cost.kind (bound estimator.now) size) (tables labels.old ways.old) (waiting queue.old) }
-    requires good { ok queue.old }
+    requires ready { Ready (rule Q.Cost.Cost.kind (E.bound estimator.now) size) (tables labels.old ways.old) (Q.waiting queue.old) }
+    requires good { Q.ok queue.old }
     requires junction { to.v < size.junctions }
     requires outlets { to.set < size.sets }
-    ensures ready { Ready (rule Q.Cost.Cost.kind (bound estimator.now) size) (tables labels.new ways.new) (waiting queue.new) }
-    ensures good { ok queue.new }
-    ensures lends { standing (Q.Queue.lender queue.new) (waiting queue.new) ≡ standing (Q.Queue.lender queue.old) (waiting queue.old) }
-    ensures same { tables labels.new ways.new ≡ offered (rule Q.Cost.Cost.kind (bound estimator.now) size) (tables labels.old ways.old) to back }
+    ensures ready { Ready (rule Q.Cost.Cost.kind (E.bound estimator.now) size) (tables labels.new ways.new) (Q.waiting queue.new) }
+    ensures good { Q.ok queue.new }
+    ensures lends { standing (Q.Queue.lender queue.new) (Q.waiting queue.new) ≡ standing (Q.Queue.lender queue.old) (Q.waiting queue.old) }
+    ensures same { tables labels.new ways.new ≡ offered (rule Q.Cost.Cost.kind (E.bound estimator.now) size) (tables labels.old ways.old) to back }
 {
     let code = size.code(to.v, to.set);
     // Most candidates are not kept, and an estimate takes longer than to see that.

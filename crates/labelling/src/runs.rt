@@ -32,14 +32,14 @@ fn offer_run<Q: Queue, E: Estimator<Cost = Q::Cost>>(
     mark: bool,
     run: &Run<Q::Cost>,
 )
-    requires ready { Ready (rule Q.Cost.Cost.kind (bound estimator.now) size) (tables labels.old ways.old) (waiting queue.old) }
-    requires good { ok queue.old }
+    requires ready { Ready (rule Q.Cost.Cost.kind (E.bound estimator.now) size) (tables labels.old ways.old) (Q.waiting queue.old) }
+    requires good { Q.ok queue.old }
     requires ends { (run.now.a < size.junctions) × (run.now.b < size.junctions) }
     requires outlets { from.set < size.sets }
-    ensures ready { Ready (rule Q.Cost.Cost.kind (bound estimator.now) size) (tables labels.new ways.new) (waiting queue.new) }
-    ensures good { ok queue.new }
-    ensures lends { standing (Q.Queue.lender queue.new) (waiting queue.new) ≡ standing (Q.Queue.lender queue.old) (waiting queue.old) }
-    ensures same { tables labels.new ways.new ≡ along (rule Q.Cost.Cost.kind (bound estimator.now) size) from number mark run.now (tables labels.old ways.old) }
+    ensures ready { Ready (rule Q.Cost.Cost.kind (E.bound estimator.now) size) (tables labels.new ways.new) (Q.waiting queue.new) }
+    ensures good { Q.ok queue.new }
+    ensures lends { standing (Q.Queue.lender queue.new) (Q.waiting queue.new) ≡ standing (Q.Queue.lender queue.old) (Q.waiting queue.old) }
+    ensures same { tables labels.new ways.new ≡ along (rule Q.Cost.Cost.kind (E.bound estimator.now) size) from number mark run.now (tables labels.old ways.old) }
 {
     if mark {
         if let Some(w) = other_end(run, from.v) {
@@ -72,16 +72,16 @@ pub(crate) fn offer_runs<Q: Queue, E: Estimator<Cost = Q::Cost>>(
     runs: &[Run<Q::Cost>],
     open: &[bool],
 )
-    requires ready { Ready (rule Q.Cost.Cost.kind (bound estimator.now) size) (tables labels.old ways.old) (waiting queue.old) }
-    requires good { ok queue.old }
+    requires ready { Ready (rule Q.Cost.Cost.kind (E.bound estimator.now) size) (tables labels.old ways.old) (Q.waiting queue.old) }
+    requires good { Q.ok queue.old }
     requires ends { Ends size.junctions runs.now }
     requires marked { length runs.now ≤ length «open».now }
     requires numbered { length runs.now ≤ 2 ^ 16 }
     requires outlets { from.set < size.sets }
-    ensures ready { Ready (rule Q.Cost.Cost.kind (bound estimator.now) size) (tables labels.new ways.new) (waiting queue.new) }
-    ensures good { ok queue.new }
-    ensures lends { standing (Q.Queue.lender queue.new) (waiting queue.new) ≡ standing (Q.Queue.lender queue.old) (waiting queue.old) }
-    ensures same { tables labels.new ways.new ≡ runs_offered (rule Q.Cost.Cost.kind (bound estimator.now) size) from «open».now 0 runs.now (tables labels.old ways.old) }
+    ensures ready { Ready (rule Q.Cost.Cost.kind (E.bound estimator.now) size) (tables labels.new ways.new) (Q.waiting queue.new) }
+    ensures good { Q.ok queue.new }
+    ensures lends { standing (Q.Queue.lender queue.new) (Q.waiting queue.new) ≡ standing (Q.Queue.lender queue.old) (Q.waiting queue.old) }
+    ensures same { tables labels.new ways.new ≡ runs_offered (rule Q.Cost.Cost.kind (E.bound estimator.now) size) from «open».now 0 runs.now (tables labels.old ways.old) }
 {
     for (i, run) in runs.iter().enumerate() {
         offer_run(

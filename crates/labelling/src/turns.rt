@@ -24,18 +24,18 @@ pub(crate) fn take_turn<Q: Queue, E: Estimator<Cost = Q::Cost>>(
     goal: usize,
     number: u32,
 ) -> Option<(Q::Cost, usize)>
-    requires ready { Ready (rule Q.Cost.Cost.kind (bound estimator.now) size) (tables labels.old ways.old) (waiting queue.old) }
-    requires good { ok queue.old }
+    requires ready { Ready (rule Q.Cost.Cost.kind (E.bound estimator.now) size) (tables labels.old ways.old) (Q.waiting queue.old) }
+    requires good { Q.ok queue.old }
     requires ends { Ends size.junctions runs.now }
     requires marked { length runs.now ≤ length «open».now }
     requires numbered { length runs.now ≤ 2 ^ 16 }
     requires closed { Closed size.sets }
     requires later { 0 < number }
-    ensures answers { result ≡ least_waiting (rule Q.Cost.Cost.kind (bound estimator.now) size) (tables labels.old ways.old) }
-    ensures ready { Ready (rule Q.Cost.Cost.kind (bound estimator.now) size) (tables labels.new ways.new) (waiting queue.new) }
-    ensures good { ok queue.new }
-    ensures lends { standing (Q.Queue.lender queue.new) (waiting queue.new) ≡ standing (Q.Queue.lender queue.old) (waiting queue.old) }
-    ensures same { tables labels.new ways.new ≡ took (rule Q.Cost.Cost.kind (bound estimator.now) size) «open».now runs.now goal number (tables labels.old ways.old) (least_waiting (rule Q.Cost.Cost.kind (bound estimator.now) size) (tables labels.old ways.old)) }
+    ensures answers { result ≡ least_waiting (rule Q.Cost.Cost.kind (E.bound estimator.now) size) (tables labels.old ways.old) }
+    ensures ready { Ready (rule Q.Cost.Cost.kind (E.bound estimator.now) size) (tables labels.new ways.new) (Q.waiting queue.new) }
+    ensures good { Q.ok queue.new }
+    ensures lends { standing (Q.Queue.lender queue.new) (Q.waiting queue.new) ≡ standing (Q.Queue.lender queue.old) (Q.waiting queue.old) }
+    ensures same { tables labels.new ways.new ≡ took (rule Q.Cost.Cost.kind (E.bound estimator.now) size) «open».now runs.now goal number (tables labels.old ways.old) (least_waiting (rule Q.Cost.Cost.kind (E.bound estimator.now) size) (tables labels.old ways.old)) }
 {
     let Some(taken) = queue.take() else {
         return None;

@@ -131,9 +131,9 @@ pub fn plan<Q: Queue, E: Estimator<Cost = Q::Cost>>(
     answer: &mut [u8],
 ) -> Result<Plan<Q::Cost>, NoPlan<Q::Cost>>
     ensures lends { E.Estimator.lender estimator.new ≡ E.Estimator.lender estimator.old }
-    ensures stands { standing (Q.Queue.lender queue.new) (waiting queue.new) ≡ standing (Q.Queue.lender queue.old) (waiting queue.old) }
-    ensures room { within estimator.new ≡ within estimator.old }
-    ensures plans { MatchResult (questions (layout_of view.now) (min (length labels.old) (length ways.old)) (length (waiting queue.old)) (within estimator.old (layout_of view.now).junctions (length (layout_of view.now).outlets)) (length answer.entry.now))
+    ensures stands { standing (Q.Queue.lender queue.new) (Q.waiting queue.new) ≡ standing (Q.Queue.lender queue.old) (Q.waiting queue.old) }
+    ensures room { E.within estimator.new ≡ E.within estimator.old }
+    ensures plans { MatchResult (questions (layout_of view.now) (min (length labels.old) (length ways.old)) (length (Q.waiting queue.old)) (E.within estimator.old (layout_of view.now).junctions (length (layout_of view.now).outlets)) (length answer.entry.now))
         (λ _. Carried Q.Cost.Cost.kind (bound estimator.new) (layout_of view.now) limit (tables labels.old ways.old) (tables labels.new ways.new) answer.entry.now (waiting queue.new) (record { answer = result; row = answer.exit.now })
         × makes (layout_of view.now) (bound estimator.new)
         × Prepared Q.Cost.Cost.kind (layout_of view.now) (bound estimator.new)

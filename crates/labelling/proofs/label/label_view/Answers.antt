@@ -9,8 +9,8 @@ use Rattle.labelling.specs.Questions.{room_answer, Asked}
 use Rattle.labelling.proofs.Viewing.{ends_from, others_are, others_long, others_within, asked_room, view_labelling, view_ready}
 use Rattle.labelling.proofs.label.label_view.Goals as goal
 
-pub label-from-requires : goal.label-from-requires
-label-from-requires g c =
+pub label_from-requires : goal.label_from-requires
+label_from-requires g c =
     let v = c.args.view.now in
     let l = layout_of v in
     let f = v.outlets.few in
@@ -21,8 +21,8 @@ label-from-requires g c =
     let long = others_long v.outlets.places v.outlets.count fits in
     let same = others_are v.outlets.places v.outlets.count fits in
     let all : length (take v.outlets.count v.outlets.places) ≡ v.outlets.count = length-take-le v.outlets.count v.outlets.places fits in
-    let asked = c.in-ok-size.ensures ∙ ap (λ n. room_answer l n c.capacity.result) c.min.ensures ∙ ap (room_answer l places) c.capacity.ensures in
-    let room = asked_room l places capacity c.in-ok-size.size asked in
+    let asked = c.in_ok-size.ensures ∙ ap (λ n. room_answer l n c.capacity.result) c.min.ensures ∙ ap (room_answer l places) c.capacity.ensures in
+    let room = asked_room l places capacity c.in_ok-size.size asked in
     let len = ap length same ∙ long in
     record {
       few = omega arith;
@@ -47,17 +47,17 @@ returns g c =
     let fits : v.outlets.count ≤ length v.outlets.places = omega arith in
     let same = others_are v.outlets.places v.outlets.count fits in
     let all : length (take v.outlets.count v.outlets.places) ≡ v.outlets.count = length-take-le v.outlets.count v.outlets.places fits in
-    let asked = c.in-ok-size.ensures ∙ ap (λ n. room_answer l n c.capacity.result) c.min.ensures ∙ ap (room_answer l places) c.capacity.ensures in
-    let room = asked_room l places capacity c.in-ok-size.size asked in
+    let asked = c.in_ok-size.ensures ∙ ap (λ n. room_answer l n c.capacity.result) c.min.ensures ∙ ap (room_answer l places) c.capacity.ensures in
+    let room = asked_room l places capacity c.in_ok-size.size asked in
     let kind = g.Cost.Cost.kind in
     let bound = g.E.Estimator.bound c.args.estimator.now in
     let some = room.marked in
     record {
-      asks = subst (λ q. Asked q (Ok c.label-from.result)) asked tt;
-      lends = c.label-from.ensures.lends;
+      asks = subst (λ q. Asked q (Ok c.label_from.result)) asked tt;
+      lends = c.label_from.ensures.lends;
       labels = (
-        view_labelling kind bound l c.in-ok-size.size room.is c.args.limit _ _ (tables c.args.labels.now c.args.ways.now) _ (sym (get_or-take v.outlets.count v.outlets.places 0 0 (omega arith))) same c.label-from.ensures.same,
-        view_ready kind bound l c.in-ok-size.size room.is _ _ c.label-from.ensures.ready,
-        c.label-from.ensures.good,
+        view_labelling kind bound l c.in_ok-size.size room.is c.args.limit _ _ (tables c.args.labels.now c.args.ways.now) _ (sym (get_or-take v.outlets.count v.outlets.places 0 0 (omega arith))) same c.label_from.ensures.same,
+        view_ready kind bound l c.in_ok-size.size room.is _ _ c.label_from.ensures.ready,
+        c.label_from.ensures.good,
       );
     }

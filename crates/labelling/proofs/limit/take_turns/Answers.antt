@@ -10,14 +10,14 @@ loop-size-preserved g c =
     let r = rule g.Cost.Cost.kind (g.E.Estimator.bound c.args.estimator.now) c.args.size in
     let t = tables c.loop-size.labels c.loop-size.ways in
     let inv = c.loop-size.invariant in
-    let left = eqb-false c.loop-size.turns c.args.limit (sym c.if-is-spent.ensures) in
+    let left = eqb-false c.loop-size.turns c.args.limit (sym c.if-is_spent.ensures) in
     let room : c.loop-size.turns < c.args.limit = omega arith in
     let e : c.args.limit - c.loop-size.turns ≡ suc (c.args.limit - (c.loop-size.turns + 1)) = omega arith in (
-      c.take-turn.ensures.ready,
-      c.take-turn.ensures.lends ∙ inv.1,
+      c.take_turn.ensures.ready,
+      c.take_turn.ensures.lends ∙ inv.1,
       omega arith,
-      labelled_more r c.args.open.now c.args.runs.now c.args.goal c.loop-size.turns t (c.args.limit - c.loop-size.turns) (c.args.limit - (c.loop-size.turns + 1)) e _ c.take-turn.ensures.same c.in-Some.taken c.in-Some.ensures.answers c.if-taken-goal.false ∙ inv.3,
-      c.take-turn.ensures.good,
+      labelled_more r c.args.open.now c.args.runs.now c.args.goal c.loop-size.turns t (c.args.limit - c.loop-size.turns) (c.args.limit - (c.loop-size.turns + 1)) e _ c.take_turn.ensures.same c.in-Some.taken c.in-Some.ensures.answers c.if-taken-goal.false ∙ inv.3,
+      c.take_turn.ensures.good,
     )
 
 pub returns : goal.returns
@@ -25,9 +25,9 @@ returns g c =
     let r = rule g.Cost.Cost.kind (g.E.Estimator.bound c.args.estimator.now) c.args.size in
     let t = tables c.loop-size.labels c.loop-size.ways in
     let inv = c.loop-size.invariant in
-    elim c.if-is-spent.branch [
-      | goal.then-is-spent w ↦
-          let none_left : c.args.limit - c.loop-size.turns ≡ 0 = omega (arith, eqb-true c.loop-size.turns c.args.limit (sym w.if-is-spent.ensures)) in
+    elim c.if-is_spent.branch [
+      | goal.then-is_spent w ↦
+          let none_left : c.args.limit - c.loop-size.turns ≡ 0 = omega (arith, eqb-true c.loop-size.turns c.args.limit (sym w.if-is_spent.ensures)) in
           let o = w.least.result in
           record {
             ready = ready_moved r w.labels-is w.ways-is (ap g.Q.Queue.waiting w.queue-is) inv.0;
@@ -38,26 +38,26 @@ returns g c =
                 ∙ labelled_stop r c.args.open.now c.args.runs.now c.args.goal c.loop-size.turns t (c.args.limit - c.loop-size.turns) o none_left (least_is r g.met.Cost.Cost.laws t (g.Q.Queue.waiting c.loop-size.queue) inv.0 o w.least.ensures)
                 ∙ inv.3;
           }
-      | goal.else-is-spent+in-default w ↦
-          let e : c.args.limit - c.loop-size.turns ≡ suc (c.args.limit - (c.loop-size.turns + 1)) = let left = eqb-false c.loop-size.turns c.args.limit (sym w.if-is-spent.ensures) in omega (arith, inv.2) in
+      | goal.else-is_spent+in_default w ↦
+          let e : c.args.limit - c.loop-size.turns ≡ suc (c.args.limit - (c.loop-size.turns + 1)) = let left = eqb-false c.loop-size.turns c.args.limit (sym w.if-is_spent.ensures) in omega (arith, inv.2) in
           record {
-            ready = ready_moved r w.labels-is w.ways-is (ap g.Q.Queue.waiting w.queue-is) w.take-turn.ensures.ready;
-            good = subst g.Q.Queue.ok (sym w.queue-is) w.take-turn.ensures.good;
-            lends = ap (λ q. standing (g.Q.Queue.lender q) (g.Q.Queue.waiting q)) w.queue-is ∙ w.take-turn.ensures.lends ∙ inv.1;
+            ready = ready_moved r w.labels-is w.ways-is (ap g.Q.Queue.waiting w.queue-is) w.take_turn.ensures.ready;
+            good = subst g.Q.Queue.ok (sym w.queue-is) w.take_turn.ensures.good;
+            lends = ap (λ q. standing (g.Q.Queue.lender q) (g.Q.Queue.waiting q)) w.queue-is ∙ w.take_turn.ensures.lends ∙ inv.1;
             same =
                 ended_moved w.labels-is w.ways-is w.outcome-is w.turns-is
-                ∙ labelled_none r c.args.open.now c.args.runs.now c.args.goal c.loop-size.turns t (c.args.limit - c.loop-size.turns) (c.args.limit - (c.loop-size.turns + 1)) e _ w.take-turn.ensures.same w.in-default.ensures.answers
+                ∙ labelled_none r c.args.open.now c.args.runs.now c.args.goal c.loop-size.turns t (c.args.limit - c.loop-size.turns) (c.args.limit - (c.loop-size.turns + 1)) e _ w.take_turn.ensures.same w.in_default.ensures.answers
                 ∙ inv.3;
           }
-      | goal.else-is-spent+in-Some+then-taken-goal w ↦
-          let e : c.args.limit - c.loop-size.turns ≡ suc (c.args.limit - (c.loop-size.turns + 1)) = let left = eqb-false c.loop-size.turns c.args.limit (sym w.if-is-spent.ensures) in omega (arith, inv.2) in
+      | goal.else-is_spent+in-Some+then-taken-goal w ↦
+          let e : c.args.limit - c.loop-size.turns ≡ suc (c.args.limit - (c.loop-size.turns + 1)) = let left = eqb-false c.loop-size.turns c.args.limit (sym w.if-is_spent.ensures) in omega (arith, inv.2) in
           record {
-            ready = ready_moved r w.labels-is w.ways-is (ap g.Q.Queue.waiting w.queue-is) w.take-turn.ensures.ready;
-            good = subst g.Q.Queue.ok (sym w.queue-is) w.take-turn.ensures.good;
-            lends = ap (λ q. standing (g.Q.Queue.lender q) (g.Q.Queue.waiting q)) w.queue-is ∙ w.take-turn.ensures.lends ∙ inv.1;
+            ready = ready_moved r w.labels-is w.ways-is (ap g.Q.Queue.waiting w.queue-is) w.take_turn.ensures.ready;
+            good = subst g.Q.Queue.ok (sym w.queue-is) w.take_turn.ensures.good;
+            lends = ap (λ q. standing (g.Q.Queue.lender q) (g.Q.Queue.waiting q)) w.queue-is ∙ w.take_turn.ensures.lends ∙ inv.1;
             same =
                 ended_moved w.labels-is w.ways-is w.outcome-is w.turns-is
-                ∙ labelled_finished r c.args.open.now c.args.runs.now c.args.goal c.loop-size.turns t (c.args.limit - c.loop-size.turns) (c.args.limit - (c.loop-size.turns + 1)) e _ w.take-turn.ensures.same w.in-Some.taken w.in-Some.ensures.answers w.if-taken-goal.true
+                ∙ labelled_finished r c.args.open.now c.args.runs.now c.args.goal c.loop-size.turns t (c.args.limit - c.loop-size.turns) (c.args.limit - (c.loop-size.turns + 1)) e _ w.take_turn.ensures.same w.in-Some.taken w.in-Some.ensures.answers w.if-taken-goal.true
                 ∙ inv.3;
           }
     ]

@@ -4,8 +4,8 @@ use Rattle.labelling.specs.Runs.{runs_offered}
 use Rattle.labelling.proofs.Running.{ends_more, runs_more, runs_all}
 use Rattle.labelling.proofs.runs.offer_runs.Goals as goal
 
-pub offer-run-requires : goal.offer-run-requires
-offer-run-requires g c =
+pub offer_run-requires : goal.offer_run-requires
+offer_run-requires g c =
     let inv = c.loop-i.invariant in
     let l : c.loop-i.i < length c.args.runs.now = omega arith in
     let f = ends_more c.args.runs.now c.loop-i.i c.index-runs-i.result l c.index-runs-i.is c.args.size.junctions inv.3 in
@@ -17,13 +17,13 @@ loop-i-preserved g c =
     let inv = c.loop-i.invariant in
     let l : c.loop-i.i < length c.args.runs.now = omega arith in
     let f = ends_more c.args.runs.now c.loop-i.i c.index-runs-i.result l c.index-runs-i.is c.args.size.junctions inv.3 in (
-      c.offer-run.ensures.ready,
-      c.offer-run.ensures.lends ∙ inv.1,
-      ap (runs_offered r c.args.from c.args.open.now (c.loop-i.i + 1) (drop (c.loop-i.i + 1) c.args.runs.now)) c.offer-run.ensures.same
+      c.offer_run.ensures.ready,
+      c.offer_run.ensures.lends ∙ inv.1,
+      ap (runs_offered r c.args.from c.args.open.now (c.loop-i.i + 1) (drop (c.loop-i.i + 1) c.args.runs.now)) c.offer_run.ensures.same
           ∙ runs_more c.args.runs.now c.loop-i.i c.index-runs-i.result l c.index-runs-i.is r c.args.from c.args.open.now (tables c.loop-i.labels c.loop-i.ways)
           ∙ inv.2,
       f.2,
-      c.offer-run.ensures.good,
+      c.offer_run.ensures.good,
     )
 
 pub returns : goal.returns
