@@ -13,9 +13,9 @@ loop-i-preserved g c =
     let rest = round_arcs n (open_runs (drop (i + 1) V.runs.now) (drop (i + 1) V.«open».now)) in
     let o = get_or V.«open».now i false in
     let more = round_more kind n V.runs.now V.«open».now i c.run-item.result o c.loop-i.ds c.loop-i-test.true (let m = V.marks in let l = c.loop-i-test.true in omega arith) c.run-item.is refl in (
-      ap (applied kind rest) c.try-if-open-tried.ensures.after ∙ (sym more ∙ c.loop-i.invariant.0),
-      λ h. let p = or_parts c.loop-i.changed c.try-if-open-tried.result h in
-          c.try-if-open-tried.ensures.still p.1 ∙ c.loop-i.invariant.1 p.0,
+      ap (applied kind rest) c.try_if_open-tried.ensures.after ∙ (sym more ∙ c.loop-i.invariant.0),
+      λ h. let p = or_parts c.loop-i.changed c.try_if_open-tried.result h in
+          c.try_if_open-tried.ensures.still p.1 ∙ c.loop-i.invariant.1 p.0,
     )
 
 pub returns : goal.returns
