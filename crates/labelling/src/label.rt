@@ -146,7 +146,7 @@ pub fn label_view<Q: Queue, E: Estimator<Cost = Q::Cost>>(
     ensures labels { MatchResult result
         (λ e. (record { ending = e; left = tables labels.new ways.new } ≡ labelling Q.Cost.Cost.kind (E.bound estimator.now) (layout_of view.now) limit (tables labels.old ways.old))
         × Ready (rule_of Q.Cost.Cost.kind (E.bound estimator.now) (layout_of view.now)) (tables labels.new ways.new) (Q.waiting queue.new)
-        × Ok queue.new)
+        × Q.ok queue.new)
         (λ _. (tables labels.new ways.new ≡ tables labels.old ways.old) × (queue.new ≡ queue.old)) }
 {
     let size = room(view, labels.len().min(ways.len()), (*queue).capacity())?;

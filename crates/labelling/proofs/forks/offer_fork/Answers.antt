@@ -16,7 +16,7 @@ label_of-other-requires g c =
 
 pub returns-in-Some : goal.returns-in-Some
 returns-in-Some g c =
-    let r = rule g.Cost.Cost.kind (g.E.Estimator.bound c.args.estimator.now) c.args.size in
+    let r = rule g.Q.Cost.Cost.kind (g.E.Estimator.bound c.args.estimator.now) c.args.size in
     let t = tables c.args.labels.now c.args.ways.now in
     let settled : turn_at t c.code-code.result ≡ 0 → ⊥ = λ z. c.if-turn_of-eq0.false (c.turn_of.ensures ∙ z) in
     record {
@@ -28,7 +28,7 @@ returns-in-Some g c =
 
 pub returns-in_default : goal.returns-in_default
 returns-in_default g c =
-    let r = rule g.Cost.Cost.kind (g.E.Estimator.bound c.args.estimator.now) c.args.size in
+    let r = rule g.Q.Cost.Cost.kind (g.E.Estimator.bound c.args.estimator.now) c.args.size in
     let t = tables c.args.labels.now c.args.ways.now in
     let settled : turn_at t c.code-code.result ≡ 0 → ⊥ = λ z. c.if-turn_of-eq0.false (c.turn_of.ensures ∙ z) in
     record {

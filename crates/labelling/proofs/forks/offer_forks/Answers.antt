@@ -11,7 +11,7 @@ next_apart-set-requires-in-loop-set g c =
 
 pub loop-set-init : goal.loop-set-init
 loop-set-init g c =
-    let r = rule g.Cost.Cost.kind (g.E.Estimator.bound c.args.estimator.now) c.args.size in
+    let r = rule g.Q.Cost.Cost.kind (g.E.Estimator.bound c.args.estimator.now) c.args.size in
     let n = c.next_apart-set in (
       c.requires.ready,
       refl,
@@ -22,7 +22,7 @@ loop-set-init g c =
 
 pub loop-set-preserved : goal.loop-set-preserved
 loop-set-preserved g c =
-    let r = rule g.Cost.Cost.kind (g.E.Estimator.bound c.args.estimator.now) c.args.size in
+    let r = rule g.Q.Cost.Cost.kind (g.E.Estimator.bound c.args.estimator.now) c.args.size in
     let inv = c.loop-set.invariant in
     let n = c.next_apart-set-in-loop-set in (
       c.offer_fork.ensures.ready,
@@ -34,7 +34,7 @@ loop-set-preserved g c =
 
 pub returns : goal.returns
 returns g c =
-    let r = rule g.Cost.Cost.kind (g.E.Estimator.bound c.args.estimator.now) c.args.size in
+    let r = rule g.Q.Cost.Cost.kind (g.E.Estimator.bound c.args.estimator.now) c.args.size in
     let inv = c.loop-set.invariant in
     record {
       ready = inv.0;

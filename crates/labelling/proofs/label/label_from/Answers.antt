@@ -13,7 +13,7 @@ wipe_ways-requires g c = subst (λ n. n ≤ length c.args.ways.now) (sym c.codes
 
 pub offer_starts-requires : goal.offer_starts-requires
 offer_starts-requires g c =
-    let r = rule g.Cost.Cost.kind (g.E.Estimator.bound c.args.estimator.now) c.args.size in
+    let r = rule g.Q.Cost.Cost.kind (g.E.Estimator.bound c.args.estimator.now) c.args.size in
     let t = tables c.args.labels.now c.args.ways.now in
     let n = length (g.Q.Queue.waiting c.args.queue.now) in
     record {
@@ -38,7 +38,7 @@ take_turns-requires g c = record {
 
 pub returns : goal.returns
 returns g c =
-    let r = rule g.Cost.Cost.kind (g.E.Estimator.bound c.args.estimator.now) c.args.size in
+    let r = rule g.Q.Cost.Cost.kind (g.E.Estimator.bound c.args.estimator.now) c.args.size in
     let t = tables c.args.labels.now c.args.ways.now in
     record {
       ready = c.take_turns.ensures.ready;

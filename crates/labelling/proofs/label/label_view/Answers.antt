@@ -49,7 +49,7 @@ returns g c =
     let all : length (take v.outlets.count v.outlets.places) ≡ v.outlets.count = length-take-le v.outlets.count v.outlets.places fits in
     let asked = c.in_ok-size.ensures ∙ ap (λ n. room_answer l n c.capacity.result) c.min.ensures ∙ ap (room_answer l places) c.capacity.ensures in
     let room = asked_room l places capacity c.in_ok-size.size asked in
-    let kind = g.Cost.Cost.kind in
+    let kind = g.Q.Cost.Cost.kind in
     let bound = g.E.Estimator.bound c.args.estimator.now in
     let some = room.marked in
     record {

@@ -20,7 +20,7 @@ offer-requires g c =
 
 pub loop-i-preserved : goal.loop-i-preserved
 loop-i-preserved g c =
-    let r = rule g.Cost.Cost.kind (g.E.Estimator.bound c.args.estimator.now) c.args.size in
+    let r = rule g.Q.Cost.Cost.kind (g.E.Estimator.bound c.args.estimator.now) c.args.size in
     let inv = c.loop-i.invariant in
     let t = tables c.loop-i.labels c.loop-i.ways in
     let o = get_or c.args.outlets.now c.loop-i.i 0 in
@@ -39,7 +39,7 @@ loop-i-preserved g c =
 
 pub returns : goal.returns
 returns g c =
-    let r = rule g.Cost.Cost.kind (g.E.Estimator.bound c.args.estimator.now) c.args.size in
+    let r = rule g.Q.Cost.Cost.kind (g.E.Estimator.bound c.args.estimator.now) c.args.size in
     let inv = c.loop-i.invariant in
     record {
       ready = inv.0;

@@ -7,7 +7,7 @@ use Rattle.labelling.proofs.limit.take_turns.Goals as goal
 
 pub loop-size-preserved : goal.loop-size-preserved
 loop-size-preserved g c =
-    let r = rule g.Cost.Cost.kind (g.E.Estimator.bound c.args.estimator.now) c.args.size in
+    let r = rule g.Q.Cost.Cost.kind (g.E.Estimator.bound c.args.estimator.now) c.args.size in
     let t = tables c.loop-size.labels c.loop-size.ways in
     let inv = c.loop-size.invariant in
     let left = eqb-false c.loop-size.turns c.args.limit (sym c.if-is_spent.ensures) in
@@ -22,7 +22,7 @@ loop-size-preserved g c =
 
 pub returns : goal.returns
 returns g c =
-    let r = rule g.Cost.Cost.kind (g.E.Estimator.bound c.args.estimator.now) c.args.size in
+    let r = rule g.Q.Cost.Cost.kind (g.E.Estimator.bound c.args.estimator.now) c.args.size in
     let t = tables c.loop-size.labels c.loop-size.ways in
     let inv = c.loop-size.invariant in
     elim c.if-is_spent.branch [
@@ -35,7 +35,7 @@ returns g c =
             lends = ap (λ q. standing (g.Q.Queue.lender q) (g.Q.Queue.waiting q)) w.queue-is ∙ inv.1;
             same =
                 ended_moved w.labels-is w.ways-is (w.outcome-is ∙ w.stop-outcome.ensures) w.turns-is
-                ∙ labelled_stop r c.args.open.now c.args.runs.now c.args.goal c.loop-size.turns t (c.args.limit - c.loop-size.turns) o none_left (least_is r g.met.Cost.Cost.laws t (g.Q.Queue.waiting c.loop-size.queue) inv.0 o w.least.ensures)
+                ∙ labelled_stop r c.args.open.now c.args.runs.now c.args.goal c.loop-size.turns t (c.args.limit - c.loop-size.turns) o none_left (least_is r g.met.Q.Cost.Cost.laws t (g.Q.Queue.waiting c.loop-size.queue) inv.0 o w.least.ensures)
                 ∙ inv.3;
           }
       | goal.else-is_spent+in_default w ↦

@@ -13,7 +13,7 @@ offer_run-requires g c =
 
 pub loop-i-preserved : goal.loop-i-preserved
 loop-i-preserved g c =
-    let r = rule g.Cost.Cost.kind (g.E.Estimator.bound c.args.estimator.now) c.args.size in
+    let r = rule g.Q.Cost.Cost.kind (g.E.Estimator.bound c.args.estimator.now) c.args.size in
     let inv = c.loop-i.invariant in
     let l : c.loop-i.i < length c.args.runs.now = omega arith in
     let f = ends_more c.args.runs.now c.loop-i.i c.index-runs-i.result l c.index-runs-i.is c.args.size.junctions inv.3 in (
@@ -28,6 +28,6 @@ loop-i-preserved g c =
 
 pub returns : goal.returns
 returns g c =
-    let r = rule g.Cost.Cost.kind (g.E.Estimator.bound c.args.estimator.now) c.args.size in
+    let r = rule g.Q.Cost.Cost.kind (g.E.Estimator.bound c.args.estimator.now) c.args.size in
     let inv = c.loop-i.invariant in
     record { ready = inv.0; good = inv.4; lends = inv.1; same = sym (runs_all r c.args.from c.args.open.now c.args.runs.now c.loop-i.i (tables c.loop-i.labels c.loop-i.ways) c.loop-i-test.false) ∙ inv.2 }

@@ -8,11 +8,11 @@ use Rattle.replay.proofs.Trying.{tried_by}
 use Rattle.replay.proofs.attempt.try_call.Goals as goal
 
 pub try-plan-result-requires : goal.try-plan-result-requires
-try-plan-result-requires g c = subst (λ l. Priced g.Cost.Cost.kind l.runs) (sym c.view-view.ensures) c.requires
+try-plan-result-requires g c = subst (λ l. Priced g.Q.Cost.Cost.kind l.runs) (sym c.view-view.ensures) c.requires
 
 pub returns-in-Plan : goal.returns-in-Plan
 returns-in-Plan g c =
-    let kind = g.Cost.Cost.kind in
+    let kind = g.Q.Cost.Cost.kind in
     let makes = g.E.Estimator.makes in
     let m = model_of c.args.district.now in
     let t = c.args.turn.now in

@@ -13,7 +13,7 @@ use Rattle.replay.proofs.attempt.try_plan.Goals as goal
 
 pub returns-in-Ok : goal.returns-in-Ok
 returns-in-Ok g c =
-    let kind = g.Cost.Cost.kind in
+    let kind = g.Q.Cost.Cost.kind in
     let makes = g.E.Estimator.makes in
     let here = desk (length c.args.labels.now) (length c.args.ways.now) (length (g.Q.Queue.waiting c.args.queue.now)) (g.E.Estimator.within c.args.estimator.now) in
     let l = layout_of c.args.view.now in
@@ -39,7 +39,7 @@ returns-in-Err g c =
     let codes = c.min-codes.ensures ∙ ap (λ n. min n c.args.allowance.codes) c.capacity.ensures in
     let room = c.in-Err.ensures ∙ (ap (λ n. asks n c.min-codes.result) places ∙ ap (asks (allowed here c.args.allowance).labels) codes) in
     record {
-      asks = asked_refused g.Cost.Cost.kind g.E.Estimator.makes here c.args.allowance l c.args.row.now c.in-Err.why room;
+      asks = asked_refused g.Q.Cost.Cost.kind g.E.Estimator.makes here c.args.allowance l c.args.row.now c.in-Err.why room;
       lends = refl;
       stands = refl;
       room = refl;

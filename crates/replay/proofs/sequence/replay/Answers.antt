@@ -7,7 +7,7 @@ pub returns-in-Err : goal.returns-in-Err
 returns-in-Err g c = record { replays = (c.in-Err.ensures.0, c.in-Err.ensures.1, refl); lends = refl; stands = refl; room = refl }
 
 pub try-all-requires : goal.try-all-requires
-try-all-requires g c = fresh_priced g.Cost.Cost.kind c.args.junctions (room_of c.args.memory) (model_of c.in-Ok.district) c.in-Ok.ensures
+try-all-requires g c = fresh_priced g.Q.Cost.Cost.kind c.args.junctions (room_of c.args.memory) (model_of c.in-Ok.district) c.in-Ok.ensures
 
 pub returns : goal.returns
 returns g c = record {

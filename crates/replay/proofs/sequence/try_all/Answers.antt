@@ -7,7 +7,7 @@ use Rattle.replay.proofs.sequence.try_all.Goals as goal
 
 pub loop-i-preserved : goal.loop-i-preserved
 loop-i-preserved g c =
-    let kind = g.Cost.Cost.kind in
+    let kind = g.Q.Cost.Cost.kind in
     let makes = g.E.Estimator.makes in
     let I = c.loop-i.invariant in
     let m = model_of c.loop-i.district in
@@ -27,7 +27,7 @@ pub returns : goal.returns
 returns g c =
     let I = c.loop-i.invariant in
     record {
-      replays = finish g.Cost.Cost.kind g.E.Estimator.makes _ (model_of c.args.district.now) c.args.turns.now (model_of c.loop-i.district) c.loop-i.i c.loop-i.turns (search rules) I.4;
+      replays = finish g.Q.Cost.Cost.kind g.E.Estimator.makes _ (model_of c.args.district.now) c.args.turns.now (model_of c.loop-i.district) c.loop-i.i c.loop-i.turns (search rules) I.4;
       lends = I.1;
       stands = I.2;
       room = I.3;

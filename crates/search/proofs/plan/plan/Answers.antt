@@ -33,7 +33,7 @@ conclude-requires g c =
     let p = passed l places capacity (within l.junctions (length l.outlets)) row c.in-Ok.size asked in
     let some = p.room.marked in
     let in-labels = p.room.labels in
-    let kind = g.Cost.Cost.kind in
+    let kind = g.Q.Cost.Cost.kind in
     let bound = g.E.Estimator.bound c.prepare.new.self in
     let t0 = tables c.args.labels.now c.args.ways.now in
     let left = c.in-Ok-label-view.ensures.labels.0 in
@@ -72,7 +72,7 @@ returns-in-Ok-label-view g c =
     let p = passed l places capacity (within l.junctions (length l.outlets)) row c.in-Ok.size asked in
     let ready = c.prepare.ensures.answers ∙ cond-true (within l.junctions (length l.outlets)) _ _ p.estimator in
     let done = c.in-Ok-label-view.ensures.labels in
-    let kind = g.Cost.Cost.kind in
+    let kind = g.Q.Cost.Cost.kind in
     let bound = g.E.Estimator.bound c.prepare.new.self in
     let t0 = tables c.args.labels.now c.args.ways.now in
     let in-labels = p.room.labels in
@@ -92,7 +92,7 @@ returns-in-Ok-label-view g c =
         c.prepare.ensures.lawful ready,
         done.2,
         λ priced.
-            promise kind g.met.Cost.Cost.laws bound l (ends_from v.junctions v.runs.now v.ends) v.few
+            promise kind g.met.Q.Cost.Cost.laws bound l (ends_from v.junctions v.runs.now v.ends) v.few
             (all_within v.junctions v.outlets.count v.outlets.places fits v.inside) p.room.marked priced ((c.prepare.ensures.lawful ready).lawful priced)
             t0 (omega arith) (omega arith) c.args.limit c.args.answer.now p.answer _ _ is-plan is-left,
       );
