@@ -1,5 +1,5 @@
 -- What the laws give of costs: the order `a ⊑ b`, that b is not kind.below a. Assumes nothing.
-use Rattle.std.proofs.Common.{◌≡◌, ℕ, Bool, true, false, ◌⊎◌, sym, ap, ◌∙◌, inl, inr}
+use Rattle.std.proofs.Common.{◌≡◌, true, false, ◌⊎◌, sym, ap, ◌∙◌, inl, inr}
 use Rattle.std.proofs.lemmas.Bool.{cases_Bool, both_ways, cond_both}
 use Rattle.network.specs.Costs.{Kind, Laws}
 use Rattle.estimate.specs.Greater.{greater}

@@ -1,5 +1,5 @@
 -- What a search reads of a district, sets of its runs, what they join and what they cost. Assumes nothing.
-use Rattle.std.specs.Prelude.{◌≡◌, ℕ, zero, suc, ◌-◌, ◌*◌, ◌/◌, ◌%◌, ◌^◌, ◌<◌, ◌≤◌, Bool, cond, ◌⊎◌, List, [], ◌∷◌, length, Some, None, Option, slice_index_or}
+use Rattle.std.specs.Prelude.{◌≡◌, ℕ, zero, suc, ◌<◌, ◌≤◌, Bool, cond, ◌⊎◌, List, [], ◌∷◌, length, Some, None, Option, slice_index_or}
 use Rattle.network.specs.declared.run.Run.{Run}
 use Rattle.network.specs.Costs.{Kind, AtMost, Price}
 

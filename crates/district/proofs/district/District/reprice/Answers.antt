@@ -1,8 +1,7 @@
 use Rattle.std.proofs.Common.{◌≡◌, ◌<◌, ◌≤◌, true, length, get_or, take, set, vec_items, sym, ap, ◌∙◌, subst, arith, rules}
 use Rattle.std.proofs.lemmas.List.{length-take-le, get_or-take, with_items_is}
 use Rattle.network.specs.Layouts.{Priced}
-use Rattle.network.specs.declared.run.Run.{Run}
-use Rattle.district.specs.Model.{model_of, repriced, with_runs}
+use Rattle.district.specs.Model.{model_of, with_runs}
 use Rattle.district.proofs.Changing.{take_of_set, at_cost, ends_repriced, repriced_is, repriced_taken, priced_set}
 use Rattle.district.proofs.district.District.reprice.Goals as goal
 
