@@ -1,4 +1,4 @@
-use Rattle.std.proofs.Common.{◌≡◌, suc, ◌+◌, ◌<◌, length, drop, sym, ap, ◌∙◌, add-one, arith}
+use Rattle.std.proofs.Common.{◌<◌, length, drop, sym, ap, ◌∙◌, add-one, arith}
 use Rattle.commands.specs.Numbers.{number_of}
 use Rattle.commands.specs.Words.{before}
 use Rattle.commands.specs.Figures.{figured, money_of, crossings_of}

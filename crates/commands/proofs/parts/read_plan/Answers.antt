@@ -1,4 +1,4 @@
-use Rattle.std.proofs.Common.{◌≡◌, ◌∷◌, sym, ap, ◌∙◌}
+use Rattle.std.proofs.Common.{◌∷◌, sym, ap, ◌∙◌}
 use Rattle.commands.specs.Commands.{bind, parts}
 use Rattle.commands.specs.Words.{words}
 use Rattle.commands.proofs.parts.read_plan.Goals as goal

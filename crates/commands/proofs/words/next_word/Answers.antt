@@ -1,4 +1,4 @@
-use Rattle.std.proofs.Common.{◌≡◌, ℕ, ◌<◌, true, ◌∷◌, length, get_or, drop, sym, ap, ◌∙◌, subst, arith}
+use Rattle.std.proofs.Common.{◌<◌, ◌∷◌, get_or, drop, sym, ap, ◌∙◌, arith}
 use Rattle.commands.specs.Words.{blank, words}
 use Rattle.commands.proofs.Splitting.{skipped, worded, none_left}
 use Rattle.commands.proofs.words.next_word.Goals as goal

@@ -1,4 +1,4 @@
-use Rattle.std.proofs.Common.{◌≡◌, ◌∷◌, sym, ap, ◌∙◌}
+use Rattle.std.proofs.Common.{◌∷◌, sym, ap, ◌∙◌}
 use Rattle.text.specs.Commands.{bind, parts}
 use Rattle.text.specs.Words.{words}
 use Rattle.text.proofs.parts.read_plan.Goals as goal

@@ -1,4 +1,4 @@
-use Rattle.std.proofs.Common.{◌≡◌, ℕ, ◌<◌, true, ◌∷◌, length, get_or, drop, sym, ap, ◌∙◌, subst, arith}
+use Rattle.std.proofs.Common.{◌<◌, ◌∷◌, get_or, drop, sym, ap, ◌∙◌, arith}
 use Rattle.text.specs.Words.{blank, words}
 use Rattle.text.proofs.Splitting.{skipped, worded, none_left}
 use Rattle.text.proofs.words.next_word.Goals as goal
