@@ -1,8 +1,7 @@
 -- A labelling keeps the traces from its start to its end. Assumes nothing.
-use Rattle.std.proofs.Common.{◌≡◌, ℕ, zero, suc, ◌+◌, ◌-◌, ◌/◌, ◌%◌, ◌^◌, ◌<◌, ◌≤◌, Bool, true, false, ◌≢◌, List, [], ◌∷◌, length, get_or, drop, Some, None, Option, sym, refl, ap, ◌∙◌, subst, arith}
+use Rattle.std.proofs.Common.{◌≡◌, ℕ, zero, suc, ◌+◌, ◌-◌, ◌^◌, ◌<◌, ◌≤◌, true, ◌≢◌, List, [], ◌∷◌, length, get_or, drop, Some, None, sym, refl, ap, ◌∙◌, subst, arith}
 use Rattle.std.proofs.lemmas.Nat.{pow_pos, pow_below}
 use Rattle.std.proofs.lemmas.Bool.{false≢true}
-use Rattle.network.specs.declared.run.Run.{Run}
 use Rattle.network.specs.Layouts.{Layout}
 use Rattle.network.specs.Bounds.{others, placed, root, sets, all_others}
 use Rattle.labelling.specs.declared.kinds.Label.{Label}
@@ -17,11 +16,11 @@ use Rattle.labelling.specs.Runs.{Ends}
 use Rattle.labelling.specs.Forks.{Closed}
 use Rattle.labelling.specs.Turns.{place_at, settled, turned}
 use Rattle.labelling.specs.Starts.{size_of, goal_of, blank, started, labelling_by, Within}
-use Rattle.labelling.specs.Labelling.{Labelled, ended, labelled}
-use Rattle.labelling.specs.Tracing.{Trace, from_outlet, Traced}
+use Rattle.labelling.specs.Labelling.{Labelled}
+use Rattle.labelling.specs.Tracing.{from_outlet, Traced}
 use Rattle.labelling.proofs.Offering.{code_within}
 use Rattle.labelling.proofs.Starting.{getd_wiped, length_wiped, closed_sets}
-use Rattle.labelling.proofs.Writing.{Grown, grown_refl, grown_on, offered_grown, settled_other, settled_here, settled_long}
+use Rattle.labelling.proofs.Writing.{offered_grown, settled_other, settled_here, settled_long}
 use Rattle.labelling.proofs.Folding.{started_kept, labelled_ends}
 use Rattle.labelling.proofs.Choosing.{Waits, least_waits}
 use Rattle.labelling.proofs.Tracing.{offered_traced, settled_traced}

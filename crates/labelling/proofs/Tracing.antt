@@ -1,17 +1,16 @@
 -- A candidate and a settled code keep the traces. Assumes nothing.
-use Rattle.std.proofs.Common.{◌≡◌, ℕ, ◌+◌, ◌^◌, ◌<◌, ◌≤◌, true, false, ◌≢◌, ◌⊎◌, length, get_or, Some, None, sym, refl, ap, ◌∙◌, subst, ⊎_elim, arith}
-use lib.Bits.{bit_and, bit_or, or_disjoint}
+use Rattle.std.proofs.Common.{◌≡◌, ℕ, ◌+◌, ◌<◌, ◌≤◌, true, length, sym, refl, ap, ◌∙◌, subst, ⊎_elim, arith}
+use lib.Bits.{or_disjoint}
 use Rattle.std.proofs.lemmas.Bool.{cases_eq}
 use Rattle.network.specs.Layouts.{Layout}
 use Rattle.labelling.specs.declared.kinds.Label.{Label}
 use Rattle.labelling.specs.declared.kinds.Back.{Back}
 use Rattle.labelling.specs.declared.kinds.Place.{Place}
-use Rattle.labelling.specs.Tables.{Rule, sum_of, Tables, codes, code_of, label_at, turn_at, no_way}
-use Rattle.labelling.specs.Offers.{improves, written, offered}
+use Rattle.labelling.specs.Tables.{Rule, sum_of, Tables, code_of, label_at, turn_at}
+use Rattle.labelling.specs.Offers.{written, offered}
 use Rattle.labelling.specs.Turns.{settled}
 use Rattle.labelling.specs.Tracing.{Earlier, Trace, from_outlet, from_run, from_fork, Traced}
-use Rattle.labelling.proofs.Offering.{code_within}
-use Rattle.labelling.proofs.Writing.{code_same, back_at, turn_other, back_other, label_other, turn_here, back_here, label_here, Grown, written_grown, improves_fresh, offered_either, settled_other, settled_here, settled_back}
+use Rattle.labelling.proofs.Writing.{code_same, back_at, back_other, label_other, back_here, label_here, Grown, written_grown, improves_fresh, offered_either, settled_other, settled_here, settled_back}
 
 -- ---- traces in other tables
 module _ {K : Type 0} (r : Rule K) (l : Layout K) (t t' : Tables K) where

@@ -1,24 +1,24 @@
 -- A turn keeps the traces. Assumes nothing.
-use Rattle.std.proofs.Common.{◌≡◌, ℕ, zero, suc, ◌+◌, ◌*◌, ◌/◌, ◌%◌, ◌^◌, ◌<◌, ◌≤◌, Bool, true, false, cond, eqb, ◌≢◌, ◌⊎◌, List, [], ◌∷◌, length, get_or, Some, None, Option, sym, refl, ap, ◌∙◌, subst, inl, inr, ⊎_elim, arith}
+use Rattle.std.proofs.Common.{◌≡◌, ℕ, zero, suc, ◌+◌, ◌/◌, ◌%◌, ◌<◌, ◌≤◌, Bool, true, false, cond, eqb, ◌⊎◌, List, [], ◌∷◌, length, get_or, Some, None, Option, sym, refl, ap, ◌∙◌, subst, inl, inr, ⊎_elim, arith}
 use lib.Bits.{bit_and, bit_or, or_disjoint}
 use Rattle.std.proofs.lemmas.Nat.{div-add-mod'}
-use Rattle.std.proofs.lemmas.Bool.{cases_Bool, cond_both, eqb-true, eqb-false, both_ways, false≢true}
+use Rattle.std.proofs.lemmas.Bool.{cond_both, eqb-true, eqb-false, false≢true}
 use Rattle.network.specs.declared.run.Run.{Run}
-use Rattle.network.specs.Layouts.{Layout, Link, Leads, picked, open_run}
+use Rattle.network.specs.Layouts.{Layout, picked, open_run}
 use Rattle.queue.proofs.Scan.{none≢some}
 use Rattle.labelling.specs.declared.kinds.Label.{Label}
 use Rattle.labelling.specs.declared.kinds.Back.{Back}
-use Rattle.labelling.specs.declared.kinds.Back.TheVariants.{Start, Run as ByRun, Fork}
+use Rattle.labelling.specs.declared.kinds.Back.TheVariants.{Run as ByRun, Fork}
 use Rattle.labelling.specs.declared.kinds.Place.{Place}
-use Rattle.labelling.specs.Tables.{Rule, sum_of, Tables, codes, code_of, label_at, turn_at, no_way, least_waiting}
+use Rattle.labelling.specs.Tables.{Rule, sum_of, Tables, codes, code_of, label_at, turn_at, least_waiting}
 use Rattle.labelling.specs.Offers.{offered}
 use Rattle.labelling.specs.Runs.{other_end, led, along_to, along, runs_offered, Ends}
-use Rattle.labelling.specs.Forks.{joined, fork, forks_to, forks_offered, Closed}
+use Rattle.labelling.specs.Forks.{joined, fork, forks_offered, Closed}
 use Rattle.labelling.specs.Turns.{place_at, settled, turned_at, turned}
-use Rattle.labelling.specs.Tracing.{Earlier, Trace, from_outlet, from_run, from_fork, Traced}
+use Rattle.labelling.specs.Tracing.{Earlier, Trace, from_run, from_fork, Traced}
 use Rattle.labelling.proofs.Offering.{code_within}
 use Rattle.labelling.proofs.Taking.{junction_within, set_within}
-use Rattle.labelling.proofs.Writing.{Grown, grown_refl, grown_on, offered_grown, settled_other, settled_here, settled_long}
+use Rattle.labelling.proofs.Writing.{Grown, grown_refl, grown_on, offered_grown, settled_here, settled_long}
 use Rattle.labelling.proofs.Folding.{runs_all_kept, forks_all_kept}
 use Rattle.labelling.proofs.Choosing.{Waits, least_waits}
 use Rattle.labelling.proofs.Tracing.{offered_traced, settled_traced}

@@ -1,14 +1,13 @@
 -- What a candidate and a settled code change in the tables, and what they leave. Assumes nothing.
-use Rattle.std.proofs.Common.{◌≡◌, ℕ, ◌+◌, ◌*◌, ◌/◌, ◌%◌, ◌<◌, ◌≤◌, Bool, true, false, cond, eqb, ◌≢◌, ◌⊎◌, List, length, get_or, set, Some, None, Option, sym, refl, ap, ◌∙◌, subst, ⊎_elim, arith}
+use Rattle.std.proofs.Common.{◌≡◌, ℕ, ◌/◌, ◌%◌, ◌<◌, Bool, true, false, cond, eqb, ◌≢◌, length, get_or, Some, None, Option, sym, refl, ap, ◌∙◌, subst, ⊎_elim}
 use lib.Arith.{digits_div, digits_mod}
 use Rattle.std.proofs.lemmas.List.{length-set, get_or-set_same, get_or-set_other}
-use Rattle.std.proofs.lemmas.Bool.{cases_Bool, cases_eq, cond-true, cond-false, both_ways, eqb-true}
-use Rattle.labelling.specs.declared.kinds.Label.{Label}
+use Rattle.std.proofs.lemmas.Bool.{cases_Bool, cases_eq, cond-true, cond-false, eqb-true}
 use Rattle.labelling.specs.declared.kinds.Way.{Way}
 use Rattle.labelling.specs.declared.kinds.Back.{Back}
 use Rattle.labelling.specs.declared.kinds.Place.{Place}
 use Rattle.labelling.specs.declared.kinds.Size.{Size}
-use Rattle.labelling.specs.Tables.{Rule, sum_of, Tables, tables, codes, code_of, label_at, turn_at, no_label, no_way}
+use Rattle.labelling.specs.Tables.{Rule, sum_of, Tables, code_of, label_at, turn_at, no_label, no_way}
 use Rattle.labelling.specs.Offers.{improves, written, keyed, offered}
 use Rattle.labelling.specs.Turns.{settled}
 

@@ -1,5 +1,5 @@
 -- One turn, and the labelling. Assumes nothing.
-use Rattle.std.specs.Prelude.{ℕ, ◌/◌, ◌%◌, Bool, cond, List, set, Some, None, Option, ◌==◌, slice_index_or, slice_set}
+use Rattle.std.specs.Prelude.{ℕ, ◌/◌, ◌%◌, Bool, cond, List, Some, None, Option, ◌==◌, slice_index_or, slice_set}
 use Rattle.labelling.specs.declared.kinds.Place.{Place}
 use Rattle.network.specs.declared.run.Run.{Run}
 use Rattle.labelling.specs.Tables.{Rule, Tables, tables, label_at, no_way, least_waiting}

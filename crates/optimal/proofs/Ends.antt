@@ -2,7 +2,7 @@
 use Rattle.std.proofs.Common.{◌≡◌, ℕ, zero as first, suc, ◌<◌, ◌≤◌, ◌⊎◌, List, [], ◌∷◌, length, get_or, Some, sym, refl, ap, ◌∙◌, subst, inl, inr, arith}
 use Rattle.network.specs.Costs.{Laws, AtMost}
 use Rattle.network.specs.Layouts.{Layout, Member, here, there, OpenSet, Joins, Outlet, cost_of}
-use Rattle.network.specs.Bounds.{root, others, sets, all_others, Lawful}
+use Rattle.network.specs.Bounds.{root, others, all_others, Lawful}
 use Rattle.queue.proofs.Scan.{none≢some}
 use Rattle.theory.specs.Derivations.{InSet, Connects, Deriv, uses, Same, Cheapest, LeastCost}
 use Rattle.theory.specs.DreyfusWagner.{DreyfusWagner}

@@ -2,7 +2,6 @@ use Rattle.std.proofs.Common.{refl, arith}
 use Rattle.labelling.specs.Tables.{rule, tables}
 use Rattle.labelling.proofs.Standing.{stands_put}
 use Rattle.labelling.proofs.Offering.{offer_within, offer_left, offer_kept, offer_ready}
-use Rattle.labelling.proofs.offer.offer.Given as given
 use Rattle.labelling.proofs.offer.offer.Goals as goal
 
 pub improves_on-requires : goal.improves_on-requires
