@@ -1,6 +1,6 @@
 -- A plan, by what its steps left. Assumes nothing.
-use Rattle.std.proofs.Common.{◌≡◌, ℕ, zero, suc, ◌+◌, ◌-◌, ◌<◌, ◌≤◌, Bool, true, false, cond, eqb, ltb, ◌⊎◌, List, [], ◌∷◌, length, get_or, take, Some, None, Ok, Err, Option, Result, sym, refl, ap, ◌∙◌, subst, inl, inr, arith, MatchResult}
-use lib.Bits.{bit_and, bit_or, or_disjoint}
+use Rattle.std.proofs.Common.{◌≡◌, ℕ, zero, suc, ◌+◌, ◌-◌, ◌<◌, ◌≤◌, Bool, true, false, cond, eqb, ltb, ◌⊎◌, List, [], ◌∷◌, length, get_or, take, Some, None, Ok, Err, Result, sym, refl, ap, ◌∙◌, subst, inl, inr, arith, MatchResult}
+use lib.Bits.{or_disjoint}
 use Rattle.std.proofs.lemmas.List.{get_or-take, length-take-le}
 use Rattle.std.proofs.lemmas.Bool.{cases_Bool, cond-true, cond-false, eq-eqb, ne_eqb, eqb-true, eqb-false, ltb-false}
 use Rattle.network.specs.Costs.{Kind}
@@ -15,17 +15,17 @@ use Rattle.labelling.specs.declared.kinds.Label.{Label}
 use Rattle.labelling.specs.declared.kinds.Outcome.{Outcome}
 use Rattle.labelling.specs.declared.kinds.Outcome.TheVariants.{Finished}
 use Rattle.labelling.specs.declared.kinds.Size.{Size}
-use Rattle.labelling.specs.Tables.{Tables, Rule, code_of, turn_at, label_at}
+use Rattle.labelling.specs.Tables.{Tables, code_of, turn_at}
 use Rattle.labelling.specs.Labelling.{Labelled}
 use Rattle.labelling.specs.Questions.{room_answer}
 use Rattle.labelling.specs.Starts.{size_of, rule_of, goal_of, wiped, Within}
-use Rattle.labelling.specs.Tracing.{Earlier, Trace, from_outlet, from_run, from_fork, Traced}
+use Rattle.labelling.specs.Tracing.{Earlier, Trace, from_run, from_fork, Traced}
 use Rattle.labelling.proofs.Viewing.{Room, asked_room}
 use Rattle.labelling.proofs.Ended.{Ended, EndedAs}
 use Rattle.search.specs.declared.answer.Plan.{Plan}
 use Rattle.optimal.specs.Drawing.{far_end, back_of, drawn}
 use Rattle.search.specs.Drawing.{turn_of, Settled, Leads, Falls}
-use Rattle.search.specs.Planning.{questions, then_ask, Planned, priced_at, cost_at, no_runs, runs_drawn, ended_by, concluded, Drawable}
+use Rattle.search.specs.Planning.{questions, then_ask, Planned, priced_at, cost_at, no_runs, ended_by, concluded, Drawable}
 
 none≢some : {X : Type 0} {x : X} {G : Type 0} → None ≡ Some x → G
 none≢some e = absurd (let z : ◌≡◌ {A = ℕ} 0 1 = cc in omega arith)

@@ -14,7 +14,7 @@ use Rattle.labelling.specs.Starts.{size_of, rule_of, goal_of, wiped, labelling}
 use Rattle.labelling.specs.Questions.{room_answer}
 use Rattle.search.specs.declared.answer.Plan.{Plan}
 use Rattle.search.specs.declared.answer.NoPlan.{NoPlan}
-use Rattle.search.specs.declared.answer.NoPlan.TheVariants.{Refused, Unjoined, Stopped as AtLimit}
+use Rattle.search.specs.declared.answer.NoPlan.TheVariants.{Unjoined, Stopped as AtLimit}
 use Rattle.optimal.specs.Drawing.{drawn}
 use Rattle.search.specs.Drawing.{turn_of, Settled, Falls}
 

@@ -93,7 +93,7 @@ fn conclude<K: Cost>(
     requires ways { codes size ≤ length ways.now }
     requires room { length view.now.runs.now ≤ length answer.old }
     requires drawable { ending.outcome ≡ Finished → Drawable (layout_of view.now) (tables labels.now ways.now) ending.turns }
-    ensures { record { answer = result; row = answer.exit.now } ≡ concluded K.Cost.kind (layout_of view.now) (record { ending = ending; left = tables labels.now ways.now }) answer.entry.now }
+    ensures { record { answer = result; row = answer.new } ≡ concluded K.Cost.kind (layout_of view.now) (record { ending = ending; left = tables labels.now ways.now }) answer.old }
 {
     let outlets = view.outlets;
     if outlets.count == 1 {
@@ -133,17 +133,17 @@ pub fn plan<Q: Queue, E: Estimator<Cost = Q::Cost>>(
     ensures lends { E.Estimator.lender estimator.new ≡ E.Estimator.lender estimator.old }
     ensures stands { standing (Q.Queue.lender queue.new) (Q.waiting queue.new) ≡ standing (Q.Queue.lender queue.old) (Q.waiting queue.old) }
     ensures room { E.within estimator.new ≡ E.within estimator.old }
-    ensures plans { MatchResult (questions (layout_of view.now) (min (length labels.old) (length ways.old)) (length (Q.waiting queue.old)) (E.within estimator.old (layout_of view.now).junctions (length (layout_of view.now).outlets)) (length answer.entry.now))
-        (λ _. Carried Q.Cost.Cost.kind (bound estimator.new) (layout_of view.now) limit (tables labels.old ways.old) (tables labels.new ways.new) answer.entry.now (waiting queue.new) (record { answer = result; row = answer.exit.now })
-        × makes (layout_of view.now) (bound estimator.new)
-        × Prepared Q.Cost.Cost.kind (layout_of view.now) (bound estimator.new)
-        × ok queue.new
-        × (Priced Q.Cost.Cost.kind (layout_of view.now).runs → Right Q.Cost.Cost.kind (bound estimator.new) (layout_of view.now) limit (tables labels.new ways.new) answer.exit.now result))
+    ensures plans { MatchResult (questions (layout_of view.now) (min (length labels.old) (length ways.old)) (length (Q.waiting queue.old)) (E.within estimator.old (layout_of view.now).junctions (length (layout_of view.now).outlets)) (length answer.old))
+        (λ _. Carried Q.Cost.Cost.kind (E.bound estimator.new) (layout_of view.now) limit (tables labels.old ways.old) (tables labels.new ways.new) answer.old (Q.waiting queue.new) (record { answer = result; row = answer.new })
+        × E.makes (layout_of view.now) (E.bound estimator.new)
+        × Prepared Q.Cost.Cost.kind (layout_of view.now) (E.bound estimator.new)
+        × Q.ok queue.new
+        × (Priced Q.Cost.Cost.kind (layout_of view.now).runs → Right Q.Cost.Cost.kind (E.bound estimator.new) (layout_of view.now) limit (tables labels.new ways.new) answer.new result))
         (λ why. (result ≡ Err (NoPlan.Refused why))
         × (tables labels.new ways.new ≡ tables labels.old ways.old)
         × (queue.new ≡ queue.old)
         × (estimator.new ≡ estimator.old)
-        × (answer.exit.now ≡ answer.entry.now)) }
+        × (answer.new ≡ answer.old)) }
 {
     let places = labels.len().min(ways.len());
     let fits = (*estimator).fits(view.junctions as usize, view.outlets.count as usize);

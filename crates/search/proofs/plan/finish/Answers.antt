@@ -1,7 +1,7 @@
 use Rattle.std.proofs.Common.{suc, ◌-◌, ◌<◌, ◌≤◌, length, get_or, sym, ap, ◌∙◌, subst, arith}
 use Rattle.std.proofs.lemmas.List.{get_or_read}
 use Rattle.labelling.specs.declared.kinds.Label.{Label}
-use Rattle.labelling.specs.Tables.{codes, code_of}
+use Rattle.labelling.specs.Tables.{code_of}
 use Rattle.labelling.proofs.Offering.{code_within}
 use Rattle.optimal.specs.Drawing.{drawn}
 use Rattle.search.proofs.plan.finish.Goals as goal
@@ -11,8 +11,8 @@ bounds-labels-code g c =
     let lt = code_within c.args.size c.args.root (c.args.size.sets - 1) c.requires.settled.junction c.requires.settled.outlets in
     subst (λ n. n < length c.args.labels.now) (sym c.code.ensures) (let long = c.requires.labels in omega arith)
 
-pub offset-bounds-labels-code : goal.offset-bounds-labels-code
-offset-bounds-labels-code g c =
+pub offset_bounds-labels-code : goal.offset_bounds-labels-code
+offset_bounds-labels-code g c =
     let lt = code_within c.args.size c.args.root (c.args.size.sets - 1) c.requires.settled.junction c.requires.settled.outlets in
     subst (λ n. n ≤ length c.args.labels.now) (sym c.code.ensures) (let long = c.requires.labels in omega arith)
 
@@ -24,5 +24,5 @@ returns g c =
     let enough = c.requires.turns in
     record {
       cost = λ d. ap (λ (y : Label _). record { cost = y.cost; count = c.args.turns }) (get_or_read c.args.labels.now c.code.result c.index-labels-code.result in-labels c.index-labels-code.is d ∙ ap (λ n. get_or c.args.labels.now n d) c.code.ensures);
-      row = c.draw-branch.ensures (suc c.args.turns) (omega arith) ∙ ap (drawn c.args.size c.args.runs.now c.args.ways.now (suc c.args.turns) c.args.root (c.args.size.sets - 1)) c.wipe.ensures;
+      row = c.draw_branch.ensures (suc c.args.turns) (omega arith) ∙ ap (drawn c.args.size c.args.runs.now c.args.ways.now (suc c.args.turns) c.args.root (c.args.size.sets - 1)) c.wipe.ensures;
     }

@@ -1,12 +1,11 @@
-use Rattle.std.proofs.Common.{◌≡◌, ◌-◌, ◌^◌, ◌<◌, ◌≤◌, min, length, take, sym, refl, ap, ◌∙◌, subst, arith, pow_pos}
+use Rattle.std.proofs.Common.{◌≡◌, ◌<◌, ◌≤◌, min, length, take, sym, refl, ap, ◌∙◌, subst, arith, pow_pos}
 use Rattle.std.proofs.lemmas.List.{get_or-take, length-take-le}
 use Rattle.std.proofs.lemmas.Bool.{cond-true}
-use Rattle.network.specs.Bounds.{root, others, all_others}
+use Rattle.network.specs.Bounds.{root, others}
 use Rattle.district.specs.Model.{layout_of}
-use Rattle.labelling.specs.declared.kinds.Size.{Size}
 use Rattle.labelling.specs.Labelling.{Labelled}
 use Rattle.labelling.specs.Tables.{tables, codes}
-use Rattle.labelling.specs.Starts.{size_of, rule_of}
+use Rattle.labelling.specs.Starts.{rule_of}
 use Rattle.labelling.proofs.Viewing.{ends_from}
 use Rattle.labelling.proofs.Ended.{Ended, labelling_ended}
 use Rattle.search.specs.Planning.{questions, concluded}
@@ -36,8 +35,8 @@ conclude-requires g c =
     let kind = g.Q.Cost.Cost.kind in
     let bound = g.E.Estimator.bound c.prepare.new.self in
     let t0 = tables c.args.labels.now c.args.ways.now in
-    let left = c.in-Ok-label-view.ensures.labels.0 in
-    let ended : Ended (rule_of kind bound l) l c.args.limit t0 (record { ending = c.in-Ok-label-view.ending; left = tables c.label-view.new.labels c.label-view.new.ways }) =
+    let left = c.in-Ok-label_view.ensures.labels.0 in
+    let ended : Ended (rule_of kind bound l) l c.args.limit t0 (record { ending = c.in-Ok-label_view.ending; left = tables c.label_view.new.labels c.label_view.new.ways }) =
     subst (Ended (rule_of kind bound l) l c.args.limit t0) (sym left)
     (labelling_ended (rule_of kind bound l) l refl (ends_from v.junctions v.runs.now v.ends) (all_within v.junctions v.outlets.count v.outlets.places fits v.inside) some t0 (omega arith) (omega arith) c.args.limit) in
     let at_root : root l < v.junctions = subst (λ x. x < v.junctions) (sym (get_or-take v.outlets.count v.outlets.places 0 0 (omega arith))) (v.inside 0 (omega arith)) in
@@ -47,14 +46,14 @@ conclude-requires g c =
     record {
       marked = omega arith;
       size = p.room.is;
-      labels = subst (λ s. codes s ≤ length c.label-view.new.labels) (sym p.room.is) (omega arith);
-      ways = subst (λ s. codes s ≤ length c.label-view.new.ways) (sym p.room.is) (omega arith);
+      labels = subst (λ s. codes s ≤ length c.label_view.new.labels) (sym p.room.is) (omega arith);
+      ways = subst (λ s. codes s ≤ length c.label_view.new.ways) (sym p.room.is) (omega arith);
       room = p.answer;
-      drawable = λ fin. drawable_by kind bound l c.args.limit t0 (record { ending = c.in-Ok-label-view.ending; left = tables c.label-view.new.labels c.label-view.new.ways }) at_root (omega arith) ended fin;
+      drawable = λ fin. drawable_by kind bound l c.args.limit t0 (record { ending = c.in-Ok-label_view.ending; left = tables c.label_view.new.labels c.label_view.new.ways }) at_root (omega arith) ended fin;
     }
 
-pub returns-in-Ok-label-view : goal.returns-in-Ok-label-view
-returns-in-Ok-label-view g c =
+pub returns-in-Ok-label_view : goal.returns-in-Ok-label_view
+returns-in-Ok-label_view g c =
     let v = c.args.view.now in
     let l = layout_of v in
     let few = v.outlets.few in
@@ -71,7 +70,7 @@ returns-in-Ok-label-view g c =
     ∙ ap (λ b. questions l places capacity b row) (c.fits-fits.ensures ∙ ap (within v.junctions) (sym count)) in
     let p = passed l places capacity (within l.junctions (length l.outlets)) row c.in-Ok.size asked in
     let ready = c.prepare.ensures.answers ∙ cond-true (within l.junctions (length l.outlets)) _ _ p.estimator in
-    let done = c.in-Ok-label-view.ensures.labels in
+    let done = c.in-Ok-label_view.ensures.labels in
     let kind = g.Q.Cost.Cost.kind in
     let bound = g.E.Estimator.bound c.prepare.new.self in
     let t0 = tables c.args.labels.now c.args.ways.now in
@@ -80,7 +79,7 @@ returns-in-Ok-label-view g c =
     let is-left = ap (λ (x : Labelled _). x.left) done.0 in
     record {
       lends = c.prepare.ensures.lends;
-      stands = c.in-Ok-label-view.ensures.lends;
+      stands = c.in-Ok-label_view.ensures.lends;
       room = c.prepare.ensures.room;
       plans = cases_ok _ _ (questions l places capacity (within l.junctions (length l.outlets)) row) c.in-Ok.size asked (
         record {
