@@ -1,5 +1,5 @@
 -- A fresh district's costs, and a plan tried by what `plan` left. Assumes nothing.
-use Rattle.std.proofs.Common.{◌≡◌, ℕ, ◌<◌, ◌≤◌, min, Bool, true, false, cond, ◌&&◌, ltb, leb, List, [], length, Ok, Err, vec_items, Option, Result, sym, refl, ap, ◌∙◌, subst, arith, MatchResult}
+use Rattle.std.proofs.Common.{◌≡◌, ℕ, ◌≤◌, min, Bool, true, false, cond, ◌&&◌, ltb, leb, List, [], length, Ok, Err, vec_items, Option, Result, sym, refl, ap, ◌∙◌, subst, arith, MatchResult}
 use Rattle.std.proofs.lemmas.Result.{MatchResult-weaker}
 use Rattle.std.proofs.lemmas.Bool.Decides.{nat_tests}
 use Rattle.network.specs.Costs.{Kind}
@@ -7,7 +7,7 @@ use Rattle.network.specs.Layouts.{Layout, Priced}
 use Rattle.network.specs.declared.refusal.Refusal.{Refusal}
 use Rattle.network.specs.declared.refusal.Refusal.TheVariants.{EstimatorFit, AnswerRow}
 use Rattle.network.specs.declared.run.Run.{Run}
-use Rattle.district.specs.Model.{Model, make_answer, fresh}
+use Rattle.district.specs.Model.{Model, make_answer}
 use Rattle.estimate.specs.Estimates.{Prepared}
 use Rattle.labelling.specs.declared.kinds.Size.{Size}
 use Rattle.labelling.specs.Questions.{room_answer}

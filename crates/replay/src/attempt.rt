@@ -75,7 +75,7 @@ fn try_plan<Q: Queue, E: Estimator<Cost = Q::Cost>>(
     row: &mut [u8],
 ) -> Result<Plan<Q::Cost>, NoPlan<Q::Cost>>
     requires { Priced Q.Cost.Cost.kind (layout_of view.now).runs }
-    ensures asks { Asked Q.Cost.Cost.kind makes (allowed (desk (length labels.old) (length ways.old) (length (Q.waiting queue.old)) (E.within estimator.old)) allowance) (layout_of view.now) allowance.limit row.old row.new result }
+    ensures asks { Asked Q.Cost.Cost.kind E.makes (allowed (desk (length labels.old) (length ways.old) (length (Q.waiting queue.old)) (E.within estimator.old)) allowance) (layout_of view.now) allowance.limit row.old row.new result }
     ensures lends { E.Estimator.lender estimator.new ≡ E.Estimator.lender estimator.old }
     ensures stands { standing (Q.Queue.lender queue.new) (Q.waiting queue.new) ≡ standing (Q.Queue.lender queue.old) (Q.waiting queue.old) }
     ensures room { E.within estimator.new ≡ E.within estimator.old }
@@ -100,7 +100,7 @@ pub(crate) fn try_call<Q: Queue, E: Estimator<Cost = Q::Cost>>(
     requires { Priced Q.Cost.Cost.kind (model_of district.old).runs }
     ensures prices { Priced Q.Cost.Cost.kind (model_of district.new).runs }
     ensures writes { model_of district.new ≡ after Q.Cost.Cost.kind (model_of district.old) turn.old.call }
-    ensures answers { Answered Q.Cost.Cost.kind makes (desk (length labels.old) (length ways.old) (length (Q.waiting queue.old)) (E.within estimator.old)) (model_of district.old) turn.old turn.new }
+    ensures answers { Answered Q.Cost.Cost.kind E.makes (desk (length labels.old) (length ways.old) (length (Q.waiting queue.old)) (E.within estimator.old)) (model_of district.old) turn.old turn.new }
     ensures lends { E.Estimator.lender estimator.new ≡ E.Estimator.lender estimator.old }
     ensures stands { standing (Q.Queue.lender queue.new) (Q.waiting queue.new) ≡ standing (Q.Queue.lender queue.old) (Q.waiting queue.old) }
     ensures room { E.within estimator.new ≡ E.within estimator.old }

@@ -23,7 +23,7 @@ fn try_all<Q: Queue, E: Estimator<Cost = Q::Cost>>(
     estimator: &mut E,
 )
     requires { Priced Q.Cost.Cost.kind (model_of district.old).runs }
-    ensures replays { Replayed Q.Cost.Cost.kind makes (desk (length labels.old) (length ways.old) (length (Q.waiting queue.old)) (E.within estimator.old)) (model_of district.old) turns.old turns.new }
+    ensures replays { Replayed Q.Cost.Cost.kind E.makes (desk (length labels.old) (length ways.old) (length (Q.waiting queue.old)) (E.within estimator.old)) (model_of district.old) turns.old turns.new }
     ensures lends { E.Estimator.lender estimator.new ≡ E.Estimator.lender estimator.old }
     ensures stands { standing (Q.Queue.lender queue.new) (Q.waiting queue.new) ≡ standing (Q.Queue.lender queue.old) (Q.waiting queue.old) }
     ensures room { E.within estimator.new ≡ E.within estimator.old }
@@ -44,7 +44,7 @@ pub fn replay<Q: Queue, E: Estimator<Cost = Q::Cost>>(
     queue: &mut Q,
     estimator: &mut E,
 ) -> Result<Memory<Q::Cost>, Unmade<Q::Cost>>
-    ensures replays { Outcome Q.Cost.Cost.kind makes (desk (length labels.old) (length ways.old) (length (Q.waiting queue.old)) (E.within estimator.old)) junctions memory turns.old turns.new result }
+    ensures replays { Outcome Q.Cost.Cost.kind E.makes (desk (length labels.old) (length ways.old) (length (Q.waiting queue.old)) (E.within estimator.old)) junctions memory turns.old turns.new result }
     ensures lends { E.Estimator.lender estimator.new ≡ E.Estimator.lender estimator.old }
     ensures stands { standing (Q.Queue.lender queue.new) (Q.waiting queue.new) ≡ standing (Q.Queue.lender queue.old) (Q.waiting queue.old) }
     ensures room { E.within estimator.new ≡ E.within estimator.old }

@@ -1,4 +1,4 @@
-use Rattle.std.proofs.Common.{◌≡◌, ℕ, min, cond, leb, length, Ok, Err, Result, refl, ap, ◌∙◌}
+use Rattle.std.proofs.Common.{ℕ, min, cond, leb, length, Ok, Err, Result, refl, ap, ◌∙◌}
 use Rattle.network.specs.declared.refusal.Refusal.{Refusal}
 use Rattle.network.specs.declared.refusal.Refusal.TheVariants.{EstimatorFit}
 use Rattle.labelling.specs.declared.kinds.Size.{Size}

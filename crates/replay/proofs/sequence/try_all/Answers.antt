@@ -15,12 +15,12 @@ loop-i-preserved g c =
     let queued : length (g.Q.Queue.waiting c.loop-i.queue) ≡ length (g.Q.Queue.waiting c.args.queue.now) = ap (λ p. p.1) I.2 in
     let same : desk (length c.loop-i.labels) (length c.loop-i.ways) (length (g.Q.Queue.waiting c.loop-i.queue)) (g.E.Estimator.within c.loop-i.estimator) ≡ desk (length c.args.labels.now) (length c.args.ways.now) (length (g.Q.Queue.waiting c.args.queue.now)) (g.E.Estimator.within c.args.estimator.now) =
     λ i. desk (c.loop-i.auto.labels i) (c.loop-i.auto.ways i) (queued i) (I.3 i) in
-    let a = subst (λ (x : Desk). Answered kind makes x m (get_or c.loop-i.turns c.loop-i.i d) c.try-call.new.turn) same c.try-call.ensures.answers in (
-      c.try-call.ensures.prices,
-      c.try-call.ensures.lends ∙ I.1,
-      c.try-call.ensures.stands ∙ I.2,
-      c.try-call.ensures.room ∙ I.3,
-      step kind makes _ (model_of c.args.district.now) c.args.turns.now m (model_of c.try-call.new.district) c.loop-i.i c.loop-i.turns d c.try-call.new.turn (search rules) a c.try-call.ensures.writes I.4,
+    let a = subst (λ (x : Desk). Answered kind makes x m (get_or c.loop-i.turns c.loop-i.i d) c.try_call.new.turn) same c.try_call.ensures.answers in (
+      c.try_call.ensures.prices,
+      c.try_call.ensures.lends ∙ I.1,
+      c.try_call.ensures.stands ∙ I.2,
+      c.try_call.ensures.room ∙ I.3,
+      step kind makes _ (model_of c.args.district.now) c.args.turns.now m (model_of c.try_call.new.district) c.loop-i.i c.loop-i.turns d c.try_call.new.turn (search rules) a c.try_call.ensures.writes I.4,
     )
 
 pub returns : goal.returns
