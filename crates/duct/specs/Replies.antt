@@ -1,5 +1,5 @@
 -- What a line gets. Assumes nothing.
-use Rattle.std.specs.Prelude.{◌≡◌, ℕ, Some, None, Ok, Err, Option, Result}
+use Rattle.std.specs.Prelude.{◌≡◌, ℕ, Some, None, Ok, Err, Option}
 use Rattle.network.specs.Numbers.{number_of}
 use Rattle.text.specs.declared.command.Command.{Command}
 use Rattle.text.specs.declared.command.Command.TheVariants.{Nothing, District, Call}

@@ -10,6 +10,7 @@ mod session;
 mod site;
 
 use fault::Fault;
+use std::process::ExitCode;
 
 // The text, and then its answers.
 fn run(rt: &HostRuntime) -> Result<(), Fault> {
@@ -17,10 +18,13 @@ fn run(rt: &HostRuntime) -> Result<(), Fault> {
     session::answer_all(rt, &text)
 }
 
-fn main(rt: HostRuntime) -> Result<(), Fault> {
-    let done = run(&rt);
-    if let Err(fault) = &done {
-        fault.report(&rt);
+// Status 1 where a fault ended it, which is said on standard error.
+fn main(rt: HostRuntime) -> ExitCode {
+    match run(&rt) {
+        Ok(()) => ExitCode::SUCCESS,
+        Err(fault) => {
+            fault.report(&rt);
+            ExitCode::FAILURE
+        }
     }
-    done
 }

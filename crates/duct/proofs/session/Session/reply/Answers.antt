@@ -12,5 +12,5 @@ called : (o : Option Command) (at : Option Site) (command : Command) (call : _) 
 called o at command call s r t says calls is h =
     subst (λ x. Replied x at (Said r) (Some t)) (ap Some (sym calls) ∙ says) (subst (λ x. Replied (Some (Call call)) x (Said r) (Some t)) (sym is) (r, t, refl, refl, h))
 
-pub returns-in-ok-answer : goal.returns-in-ok-answer
-returns-in-ok-answer c = called _ _ _ _ _ _ _ c.in-Some.ensures c.in-Call.is c.in-Some-site.is c.in-ok-answer.ensures
+pub returns-in_ok-answer-in-Some-site : goal.returns-in_ok-answer-in-Some-site
+returns-in_ok-answer-in-Some-site c = called _ _ _ _ _ _ _ c.in-Some.ensures c.in-Call.is c.in-Some-site.is c.in_ok-answer-in-Some-site.ensures
