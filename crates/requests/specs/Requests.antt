@@ -1,5 +1,5 @@
 -- What the lines of a district ask for. Assumes nothing.
-use Rattle.std.specs.Prelude.{ℕ, ◌+◌, ◌-◌, ◌*◌, ◌^◌, min, cond, List, [], ◌∷◌, length, Some, None, vec_len, Option}
+use Rattle.std.specs.Prelude.{ℕ, ◌+◌, ◌-◌, ◌*◌, ◌^◌, min, cond, List, [], ◌∷◌, Some, None, vec_len, Option}
 use Rattle.std.specs.Option.{unwrap_or}
 use Rattle.commands.specs.declared.command.Figure.{Figure}
 use Rattle.commands.specs.declared.command.Call.{Call}
