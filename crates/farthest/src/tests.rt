@@ -2,6 +2,7 @@ use crate::farthest::Farthest;
 use district::district::{District, Memory};
 use estimate::{Estimator, Larger, Silent};
 use network::{Junction, Money, Run};
+use std::alloc::Global;
 use std::process::Abort;
 use std::test::*;
 
@@ -14,24 +15,30 @@ fn run(a: Junction, b: Junction, amount: u64) -> Run<Money> {
 }
 
 // A district of these runs, with all junctions from 0 to 2 for outlets.
-fn district(rt: HostRuntime, junctions: u64, laid: &[Run<Money>]) -> Result<District<Money>, Fail> {
-    let runs = vec![in rt.alloc(); run(0, 0, 0); 5]?;
-    let open = vec![in rt.alloc(); false; 5]?;
+fn district(
+    rt: &impl Abort,
+    heap: Global,
+    junctions: u64,
+    laid: &[Run<Money>],
+) -> Result<District<Money>, Fail> {
+    let runs = vec![in heap; run(0, 0, 0); 5]?;
+    let open = vec![in heap; false; 5]?;
     let Ok(mut d) = District::make(junctions, Memory { runs, open }) else {
         return Err(Fail::new("not made"));
     };
     for r in laid {
-        assert!(d.lay(r.a as u64, r.b as u64, r.cost).is_ok());
+        assert!(rt; d.lay(r.a as u64, r.b as u64, r.cost).is_ok());
     }
     for j in 0..3 {
-        assert!(d.mark(2 - j).is_ok());
+        assert!(rt; d.mark(2 - j).is_ok());
     }
     Ok(d)
 }
 
-fn district_a(rt: HostRuntime) -> Result<District<Money>, Fail> {
+fn district_a(rt: &impl Abort, heap: Global) -> Result<District<Money>, Fail> {
     district(
         rt,
+        heap,
         4,
         &[
             run(0, 3, 2),
@@ -57,7 +64,7 @@ fn says<E: Estimator<Cost = Money>>(
 
 #[test]
 fn bounds_of_district_a(rt: HostRuntime) -> Result<(), Fail> {
-    let a = district_a(rt)?;
+    let a = district_a(&rt, rt.alloc())?;
     let mut places = [None; 48];
     let mut far = Farthest::over(&mut places);
     says(&rt, &far, &[(0, 0, 0), (1, 1, 0)])?;
@@ -81,9 +88,9 @@ fn bounds_of_district_a(rt: HostRuntime) -> Result<(), Fail> {
 // and a district that does not fit is refused, and the bound stays.
 #[test]
 fn prepared_again(rt: HostRuntime) -> Result<(), Fail> {
-    let a = district_a(rt)?;
-    let b = district(rt, 3, &[run(0, 1, 7)])?;
-    let c = district(rt, 5, &[run(0, 1, 1)])?;
+    let a = district_a(&rt, rt.alloc())?;
+    let b = district(&rt, rt.alloc(), 3, &[run(0, 1, 7)])?;
+    let c = district(&rt, rt.alloc(), 5, &[run(0, 1, 1)])?;
     let mut places = [None; 59];
     let mut far = Farthest::over(&mut places);
     assert!(rt; far.prepare(&a.view()).is_ok());
@@ -100,7 +107,7 @@ fn prepared_again(rt: HostRuntime) -> Result<(), Fail> {
 // The greater of two is refused where either does not fit, and both bounds stay.
 #[test]
 fn larger_asks_both(rt: HostRuntime) -> Result<(), Fail> {
-    let a = district_a(rt)?;
+    let a = district_a(&rt, rt.alloc())?;
     let mut many = [None; 48];
     let mut few = [None; 36];
     let mut first = Farthest::over(&mut many);
