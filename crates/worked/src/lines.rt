@@ -62,10 +62,10 @@ fn last_lines(rt: HostRuntime) -> Result<(), Fail> {
     let Some((line, rest)) = next_line(b"plan") else {
         return Err(Fail::new("a text with no line feed is a line"));
     };
-    assert!(rt; line == b"plan" && rest.is_empty());
+    assert!(rt; line == b"plan".as_slice() && rest.is_empty());
     let Some((line, rest)) = next_line(b"\n\nplan") else {
         return Err(Fail::new("an empty line is a line"));
     };
-    assert!(rt; line.is_empty() && rest == b"\nplan");
+    assert!(rt; line.is_empty() && rest == b"\nplan".as_slice());
     Ok(())
 }
