@@ -1,12 +1,12 @@
 -- Trials that report what calls got. Assumes nothing.
-use Rattle.std.proofs.Common.{◌≡◌, ℕ, Bool, true, false, eqb, List, [], ◌∷◌, ◌++◌, length, Some, None, Option, sym, refl, ap, ◌∙◌, subst, arith}
+use Rattle.std.proofs.Common.{◌≡◌, ℕ, true, false, eqb, List, [], ◌∷◌, ◌++◌, length, Some, None, Option, sym, refl, ap, ◌∙◌, subst, arith}
 use Rattle.network.specs.Costs.{Kind}
 use Rattle.commands.specs.declared.command.QueueChoice.{QueueChoice}
 use Rattle.commands.specs.declared.command.QueueChoice.TheVariants.{Row, Heap}
 use Rattle.commands.specs.declared.command.EstimatorChoice.{EstimatorChoice}
 use Rattle.commands.specs.declared.command.EstimatorChoice.TheVariants.{Silent, Farthest, Larger}
 use Rattle.requests.specs.declared.tools.Tools.{Tools}
-use Rattle.requests.specs.Tools.{same_queue, same_estimator, same_tools}
+use Rattle.requests.specs.Tools.{same_tools}
 use Rattle.sheets.specs.declared.sheet.Sheet.{Sheet}
 use Rattle.sheets.specs.declared.sheet.Trial.{Trial}
 use Rattle.sheets.specs.Sheets.{SheetTried}

@@ -1,5 +1,5 @@
 -- Turns tried with the tools that were chosen. Assumes nothing.
-use Rattle.std.proofs.Common.{◌≡◌, ℕ, min, Bool, true, ◌&&◌, List, Option, sym, ap, ◌∙◌, subst, arith}
+use Rattle.std.proofs.Common.{◌≡◌, ℕ, min, Bool, true, ◌&&◌, List, Option, sym, subst, arith}
 use Rattle.network.specs.declared.refusal.Refusal.{Refusal}
 use Rattle.network.specs.Costs.{Kind}
 use Rattle.estimate.specs.Estimates.{Silence}
@@ -8,11 +8,10 @@ use Rattle.farthest.specs.Distances.{Far}
 use Rattle.farthest.specs.Memories.{has_room}
 use Rattle.commands.specs.declared.command.EstimatorChoice.{EstimatorChoice}
 use Rattle.commands.specs.declared.command.EstimatorChoice.TheVariants.{Silent, Farthest, Larger}
-use Rattle.commands.specs.declared.command.QueueChoice.{QueueChoice}
 use Rattle.replay.specs.declared.turn.Turn.{Turn}
 use Rattle.replay.specs.Calls.{desk}
 use Rattle.requests.specs.declared.tools.Tools.{Tools}
-use Rattle.sheets.specs.Sheets.{TriedBy, Tried, makes_of, desk_for, queue_room}
+use Rattle.sheets.specs.Sheets.{TriedBy, Tried, makes_of, desk_for}
 
 -- a heap over three rows of one length
 pub held_all : (n a b c : ℕ) → a ≡ n → b ≡ n → c ≡ n → min 4294967295 (min a (min b c)) ≡ min 4294967295 n

@@ -1,5 +1,5 @@
 -- What the calls of a district got. Assumes nothing.
-use Rattle.std.specs.Prelude.{◌≡◌, ℕ, ◌*◌, min, Bool, true, ◌&&◌, List, [], ◌∷◌, ◌++◌, map, length, Some, None, Ok, Err, vec_items, Option}
+use Rattle.std.specs.Prelude.{◌≡◌, ℕ, ◌*◌, min, Bool, true, ◌&&◌, List, [], ◌∷◌, ◌++◌, map, Some, None, Ok, Err, vec_items, Option}
 use Rattle.network.specs.declared.refusal.Refusal.{Refusal}
 use Rattle.network.specs.Costs.{Kind}
 use Rattle.network.specs.Layouts.{Layout}

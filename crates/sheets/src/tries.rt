@@ -28,7 +28,7 @@ fn try_both<Q: Queue, E: Estimator<Cost = Q::Cost>>(
     queue: &mut Q,
     estimator: &mut E,
 ) -> Option<Refusal>
-    ensures { TriedBy Q.Cost.Cost.kind makes (desk (length labels.old) (length ways.old) (length (Q.waiting queue.old)) (E.within estimator.old)) junctions (room_of memory) turns.old turns.new result }
+    ensures { TriedBy Q.Cost.Cost.kind E.makes (desk (length labels.old) (length ways.old) (length (Q.waiting queue.old)) (E.within estimator.old)) junctions (room_of memory) turns.old turns.new result }
 {
     match replay(junctions, memory, turns, labels, ways, queue, estimator) {
         Ok(_) => None,

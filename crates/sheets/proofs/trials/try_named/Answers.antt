@@ -8,5 +8,5 @@ pub returns : goal.returns
 returns g c =
     let kind = g.K.Cost.kind in
     let s = c.args.sheet.now in
-    let first = vec_items c.add-queue.new.trials in
-    by_both kind s first _ (subst (λ ts. GrownFor kind s Row ts first) c.new-trials.ensures.items c.in-ok-add-queue.ensures) c.in-ok-add-queue-2.ensures
+    let first = vec_items c.add_queue.new.trials in
+    by_both kind s first _ (subst (λ ts. GrownFor kind s Row ts first) c.new-trials.ensures.items c.in_ok-add_queue.ensures) c.in_ok-add_queue-2.ensures

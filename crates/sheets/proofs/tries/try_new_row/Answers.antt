@@ -4,10 +4,10 @@ use Rattle.district.specs.Model.{room_of}
 use Rattle.sheets.proofs.Trying.{measured}
 use Rattle.sheets.proofs.tries.try_new_row.Goals as goal
 
-pub returns-in-err-waiting : goal.returns-in-err-waiting
-returns-in-err-waiting g c = IfOk-from_err _ _ c.from-residual.ensures.0
+pub returns-in_err-waiting : goal.returns-in_err-waiting
+returns-in_err-waiting g c = IfOk-from_err _ _ c.from_residual.ensures.0
 
 pub returns : goal.returns
 returns g c =
-    measured g.K.Cost.kind (length c.args.labels.now) (length c.args.ways.now) (length c.args.labels.now) (length c.args.distances.now) c.args.junctions (room_of c.args.memory) c.args.turns.now c.try-row.new.turns c.try-row.result c.args.estimator
-    _ _ _ _ refl refl (c.deref-mut.ensures.len ∙ c.in-ok-waiting.ensures) refl c.try-row.ensures
+    measured g.K.Cost.kind (length c.args.labels.now) (length c.args.ways.now) (length c.args.labels.now) (length c.args.distances.now) c.args.junctions (room_of c.args.memory) c.args.turns.now c.try_row.new.turns c.try_row.result c.args.estimator
+    _ _ _ _ refl refl (c.deref_mut.ensures.len ∙ c.in_ok-waiting.ensures) refl c.try_row.ensures

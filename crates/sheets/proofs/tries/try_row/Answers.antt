@@ -6,5 +6,5 @@ use Rattle.sheets.proofs.tries.try_row.Goals as goal
 
 pub returns : goal.returns
 returns g c =
-    measured g.K.Cost.kind (length c.args.labels.now) (length c.args.ways.now) (length c.args.waiting.now) (length c.args.distances.now) c.args.junctions (room_of c.args.memory) c.args.turns.now c.try-queue.new.turns c.try-queue.result c.args.estimator
-    _ _ _ _ refl refl (ap length c.over-queue.ensures.waits ∙ length-replicate _ _) refl c.try-queue.ensures
+    measured g.K.Cost.kind (length c.args.labels.now) (length c.args.ways.now) (length c.args.waiting.now) (length c.args.distances.now) c.args.junctions (room_of c.args.memory) c.args.turns.now c.try_queue.new.turns c.try_queue.result c.args.estimator
+    _ _ _ _ refl refl (ap length c.over-queue.ensures.waits ∙ length-replicate _ _) refl c.try_queue.ensures

@@ -8,13 +8,13 @@ returns-in-Row g c =
     let kind = g.K.Cost.kind in
     let e = c.args.tools.estimator in
     let L = length c.args.labels.now in
-    subst (λ q. IfOk c.try-new-row.result (λ refused. TriedBy kind (makes_of kind e) (desk_for L (length c.args.ways.now) (queue_room q L) e (length c.args.distances.now)) c.args.junctions (room_of c.args.memory) c.args.turns.now c.try-new-row.new.turns refused))
-    (sym c.in-Row.is) c.try-new-row.ensures
+    subst (λ q. IfOk c.try_new_row.result (λ refused. TriedBy kind (makes_of kind e) (desk_for L (length c.args.ways.now) (queue_room q L) e (length c.args.distances.now)) c.args.junctions (room_of c.args.memory) c.args.turns.now c.try_new_row.new.turns refused))
+    (sym c.in-Row.is) c.try_new_row.ensures
 
 pub returns-in-Heap : goal.returns-in-Heap
 returns-in-Heap g c =
     let kind = g.K.Cost.kind in
     let e = c.args.tools.estimator in
     let L = length c.args.labels.now in
-    subst (λ q. IfOk c.try-new-heap.result (λ refused. TriedBy kind (makes_of kind e) (desk_for L (length c.args.ways.now) (queue_room q L) e (length c.args.distances.now)) c.args.junctions (room_of c.args.memory) c.args.turns.now c.try-new-heap.new.turns refused))
-    (sym c.in-Heap.is) c.try-new-heap.ensures
+    subst (λ q. IfOk c.try_new_heap.result (λ refused. TriedBy kind (makes_of kind e) (desk_for L (length c.args.ways.now) (queue_room q L) e (length c.args.distances.now)) c.args.junctions (room_of c.args.memory) c.args.turns.now c.try_new_heap.new.turns refused))
+    (sym c.in-Heap.is) c.try_new_heap.ensures

@@ -1,25 +1,25 @@
-use Rattle.std.proofs.Common.{◌*◌, min, map, vec_items, sym, refl, ap, ◌∙◌, subst, rules}
+use Rattle.std.proofs.Common.{◌*◌, min, map, vec_items, sym, refl, ap, ◌∙◌, rules}
 use Rattle.std.proofs.lemmas.List.{with_items_is}
 use Rattle.std.proofs.lemmas.Result.{IfOk-from_err}
 use Rattle.requests.specs.Requests.{asked_of, labels_for}
 use Rattle.sheets.proofs.Trying.{moved}
 use Rattle.sheets.proofs.sheet.Sheet.try_with.Goals as goal
 
-pub returns-in-err-refused : goal.returns-in-err-refused
-returns-in-err-refused g c = IfOk-from_err _ _ c.from-residual-in-err-refused.ensures.0
+pub returns-in_err-refused : goal.returns-in_err-refused
+returns-in_err-refused g c = IfOk-from_err _ _ c.from_residual-in_err-refused.ensures.0
 
 pub returns : goal.returns
 returns g c =
     let s = c.args.self.now in
     let tools = c.args.tools in
-    let turns = c.in-ok-turns.turns in
-    let left = c.try-turns.new.turns in
+    let turns = c.in_ok-turns.turns in
+    let left = c.try_turns.new.turns in
     record {
       with_tools = refl;
       asked = vec_items turns;
-      each = c.in-ok-turns.ensures ∙ ap (map (asked_of tools)) c.deref.ensures.value;
+      each = c.in_ok-turns.ensures ∙ ap (map (asked_of tools)) c.deref.ensures.value;
       tried =
-          moved g.K.Cost.kind tools s.junctions c.in-ok-refused.refused c.labels-for-labels.result (labels_for (min s.junctions 1024) (vec_items s.requests)) (c.min-junctions.result * 12) (min s.junctions 1024 * 12)
-          c.places-places.result (min s.capacity 4097) c.deref-mut.result.now (vec_items turns) left _ (c.labels-for-labels.ensures ∙ ap (labels_for (min s.junctions 1024)) c.deref-2.ensures.value) (ap (λ n. n * 12) c.min-junctions.ensures)
-          c.places-places.ensures c.deref-mut.ensures.value (sym (with_items_is turns left (c.try-turns.auto.turns ∙ search rules))) c.in-ok-refused.ensures;
+          moved g.K.Cost.kind tools s.junctions c.in_ok-refused.refused c.labels_for-labels.result (labels_for (min s.junctions 1024) (vec_items s.requests)) (c.min-junctions.result * 12) (min s.junctions 1024 * 12)
+          c.places-places.result (min s.capacity 4097) c.deref_mut.result.now (vec_items turns) left _ (c.labels_for-labels.ensures ∙ ap (labels_for (min s.junctions 1024)) c.deref-2.ensures.value) (ap (λ n. n * 12) c.min-junctions.ensures)
+          c.places-places.ensures c.deref_mut.ensures.value (sym (with_items_is turns left (c.try_turns.auto.turns ∙ search rules))) c.in_ok-refused.ensures;
     }
