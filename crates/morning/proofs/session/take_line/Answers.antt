@@ -16,11 +16,11 @@ started line o at command n capacity kind u says is h = subst (λ x. Read line x
 called : (line : ℕ) (o : Option Command) (at : Option Page) (command : Command) (call : Line) (p u : Page) → Some command ≡ o → command ≡ Call call → at ≡ Some p → PageNoted p u line (Some call) → Read line o at (Some u)
 called line o at command call p u says calls is h = subst (λ x. Read line x at (Some u)) (ap Some (sym calls) ∙ says) (subst (λ x. Read line (Some (Call call)) x (Some u)) (sym is) (u, refl, h))
 
-pub returns-in-ok-skip : goal.returns-in-ok-skip
-returns-in-ok-skip c = skipped c.args.number _ _ _ _ c.in-default.ensures c.in-Some-page.is c.in-ok-skip.ensures
+pub returns-in_ok-skip-in-Some-page : goal.returns-in_ok-skip-in-Some-page
+returns-in_ok-skip-in-Some-page c = skipped c.args.number _ _ _ _ c.in_default.ensures c.in-Some-page.is c.in_ok-skip-in-Some-page.ensures
 
-pub returns-in-ok-finish : goal.returns-in-ok-finish
-returns-in-ok-finish c = started c.args.number _ _ _ _ _ _ _ c.in-Some.ensures c.in-District.is c.new.ensures
+pub returns-in_ok-finish-in-District : goal.returns-in_ok-finish-in-District
+returns-in_ok-finish-in-District c = started c.args.number _ _ _ _ _ _ _ c.in-Some.ensures c.in-District.is c.new.ensures
 
-pub returns-in-ok-note : goal.returns-in-ok-note
-returns-in-ok-note c = called c.args.number _ _ _ _ _ _ c.in-Some.ensures c.in-Call.is c.in-Some-page-2.is c.in-ok-note.ensures
+pub returns-in_ok-note-in-Some-page-2 : goal.returns-in_ok-note-in-Some-page-2
+returns-in_ok-note-in-Some-page-2 c = called c.args.number _ _ _ _ _ _ c.in-Some.ensures c.in-Call.is c.in-Some-page-2.is c.in_ok-note-in-Some-page-2.ensures
