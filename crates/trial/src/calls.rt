@@ -1,7 +1,7 @@
 // Calls written short, and the districts of the worked examples.
 ghost use Rattle.std.specs.Prelude.{◌≡◌, ◌-◌, ◌^◌};
 
-use crate::fault::Fault;
+use crate::fault::{Fault, Wrong};
 use crate::ways::Asked;
 use oracle::kind::Kind;
 use oracle::record::Record;
@@ -129,7 +129,7 @@ pub fn recorded<K: Kind>(
     let mut record = Record::new(heap, junctions, asked.len());
     for one in asked {
         if take(&mut record, one.call)? > 0 {
-            return Err(Fault::Wrong("a call that is taken"));
+            return Err(Fault::Wrong(Wrong::ACallThatIsTaken));
         }
     }
     Ok(record)

@@ -3,7 +3,7 @@ ghost use Rattle.std.specs.Prelude.{◌≡◌};
 
 use crate::calls::{RING, SEVEN, STAR, ask, ask_marks, ask_runs, laid_out, plan_in, plan_within};
 use crate::direct::examine_record;
-use crate::fault::{Fault, hold};
+use crate::fault::{Fault, Wrong, hold};
 use crate::judge::judge;
 use crate::tally::Tally;
 use crate::ways::{Asked, Outcome, Sequence, every_way};
@@ -36,13 +36,13 @@ fn found(number: u8, count: u32, money: u64, runs: usize) -> Said
 // What one way said at a call is what it must say.
 fn judge_case<K: Kind>(outcome: &Outcome<K>, call: usize, must: Said) -> Result<(), Fault> {
     let Some(turn) = outcome.turns.get(call) else {
-        return Err(Fault::Wrong("a turn is missing"));
+        return Err(Fault::Wrong(Wrong::ATurnIsMissing));
     };
     let mut said = read_answer(&turn.answer, &turn.row);
     if must.count == ANY {
         said.count = ANY;
     }
-    hold(said == must, "a worked example")
+    hold(said == must, Wrong::AWorkedExample)
 }
 
 // Tries a sequence in every way and judges it, and holds it to these cases; the record is examined too.
@@ -183,7 +183,10 @@ fn seven(heap: Global, tally: &mut Tally) -> Result<(), Fault> {
     for outcome in every_way(heap, &sequence)?.iter() {
         if let Some(turn) = outcome.turns.last() {
             let said = read_answer(&turn.answer, &turn.row);
-            hold(said.number == 0 && said.money == 5, "the seven junctions")?;
+            hold(
+                said.number == 0 && said.money == 5,
+                Wrong::TheSevenJunctions,
+            )?;
         }
     }
     Ok(())
@@ -233,7 +236,7 @@ fn making(
         asked,
     };
     for outcome in every_way(heap, &sequence)?.iter() {
-        hold(outcome.making == number, "a making at the edge")?;
+        hold(outcome.making == number, Wrong::AMakingAtTheEdge)?;
     }
     scripted(heap, &sequence, &[], tally)
 }

@@ -1,5 +1,5 @@
 // Plans of a district with no sequence around them: the labels, the count, the limit, and the law of the bounds.
-use crate::fault::{Fault, hold};
+use crate::fault::{Fault, Wrong, hold};
 use crate::tally::{Tally, count};
 use crate::ways::{LABELS, label_rows, run_rows};
 use district::district::District;
@@ -27,17 +27,20 @@ const MOST_SETS: usize = 64;
 fn built<K: Kind>(heap: Global, record: &Record<K>) -> Result<District<K>, Fault> {
     let Ok(mut district) = District::make(record.junctions, run_rows(heap, record.runs.len())?)
     else {
-        return Err(Fault::Wrong("the making of a district"));
+        return Err(Fault::Wrong(Wrong::TheMakingOfADistrict));
     };
     for (i, run) in record.runs.iter().enumerate() {
-        hold(district.lay(run.a, run.b, run.cost).is_ok(), "laying again")?;
+        hold(
+            district.lay(run.a, run.b, run.cost).is_ok(),
+            Wrong::LayingAgain,
+        )?;
         if !run.open {
-            hold(district.close(i as u64).is_ok(), "closing again")?;
+            hold(district.close(i as u64).is_ok(), Wrong::ClosingAgain)?;
         }
     }
     for j in 0..16 {
         if record.outlets & bit(j) != 0 {
-            hold(district.mark(j as u64).is_ok(), "marking again")?;
+            hold(district.mark(j as u64).is_ok(), Wrong::MarkingAgain)?;
         }
     }
     Ok(district)
@@ -56,7 +59,7 @@ fn judge_labels<K: Kind>(
             let code = cell(v, survey.sets, set);
             if code < labels.len() && code < ways.len() && ways[code].turn > 0 {
                 let cost = labels[code].cost;
-                hold(alike(at(table, code), Some(cost)), "the cost of a label")?;
+                hold(alike(at(table, code), Some(cost)), Wrong::TheCostOfALabel)?;
                 count(&mut tally.labels);
             }
         }
@@ -101,18 +104,18 @@ fn judge_limits<K: Kind, Q: Queue<Cost = K>, E: Estimator<Cost = K>>(
     tally: &mut Tally,
 ) -> Result<(), Fault> {
     let again = planned(heap, view, said.count, queue, estimator, survey, tally)?;
-    hold(again == said, "the same plan at its own limit")?;
+    hold(again == said, Wrong::TheSamePlanAtItsOwnLimit)?;
     if said.count > 0 {
         let less = planned(heap, view, said.count - 1, queue, estimator, survey, tally)?;
         hold(
             less.number == 19 && less.count == said.count - 1,
-            "one turn less",
+            Wrong::OneTurnLess,
         )?;
         let floor = K::of(less.crossings, less.money);
         let cost = K::of(said.crossings, said.money);
         hold(
             said.number == 18 || !cost.is_below(floor),
-            "the floor of one turn less",
+            Wrong::TheFloorOfOneTurnLess,
         )?;
     }
     count(&mut tally.limits);
@@ -134,14 +137,14 @@ fn examine<K: Kind, Q: Queue<Cost = K>, E: Estimator<Cost = K>>(
     let enough = record.turns().min(1_000_000) as u32;
     let said = planned(heap, &view, enough, queue, estimator, survey, tally)?;
     let (cost, turns) = walked(heap, survey, &record.runs, bounds, false)?;
-    hold(said.count == turns, "the count of turns")?;
+    hold(said.count == turns, Wrong::TheCountOfTurns)?;
     match cost {
-        None => hold(said.number == 18, "no label waits")?,
+        None => hold(said.number == 18, Wrong::NoLabelWaits)?,
         Some(cost) => {
             let other = K::of(said.crossings, said.money);
             hold(
                 said.number == 0 && alike(Some(cost), Some(other)),
-                "the cost of a plan",
+                Wrong::TheCostOfAPlan,
             )?;
         }
     }
@@ -164,7 +167,7 @@ fn judge_law_at<E: Estimator>(
                 let near = estimator.estimate(v, part as u16);
                 let far = added(Some(estimator.estimate(w, whole as u16)), at(joined, mask));
                 if let Some(far) = far {
-                    hold(!far.is_below(near), "the law of estimators")?;
+                    hold(!far.is_below(near), Wrong::TheLawOfEstimators)?;
                     count(&mut tally.laws);
                 }
             }
@@ -189,7 +192,7 @@ fn judge_law<E: Estimator>(
     let all = survey.sets.saturating_sub(1).min(MOST_SETS) as u16;
     hold(
         alike(Some(estimator.estimate(root, all)), Some(E::Cost::zero())),
-        "the bound of the root",
+        Wrong::TheBoundOfTheRoot,
     )?;
     for v in 0..MOST_JUNCTIONS {
         for w in 0..MOST_JUNCTIONS {
@@ -214,7 +217,7 @@ fn judge_bounds<E: Estimator>(
                 let said = Some(estimator.estimate(v as u16, set as u16));
                 hold(
                     alike(said, at(bounds, cell(v, survey.sets, set))),
-                    "a bound",
+                    Wrong::ABound,
                 )?;
                 count(&mut tally.bounds);
             }

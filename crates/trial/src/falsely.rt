@@ -2,7 +2,7 @@
 ghost use Rattle.std.specs.Prelude.{◌≡◌, ◌+◌, ◌-◌, ◌^◌, min, max};
 
 use crate::calls::{RING, STAR, ask, laid_out, recorded};
-use crate::fault::{Fault, hold};
+use crate::fault::{Fault, Wrong, hold};
 use network::Money;
 use oracle::costs::{added, bit, row_of};
 use oracle::survey::{Survey, surveyed};
@@ -64,7 +64,7 @@ fn star(rt: &HostRuntime) -> Result<(), Fault> {
     )?;
     hold(
         right == 6 && turns == 12 && tree == 7 && hasty == 7,
-        "the star",
+        Wrong::TheStar,
     )
 }
 
@@ -83,7 +83,7 @@ fn ring(rt: &HostRuntime) -> Result<(), Fault> {
     let stale = amount(stale);
     let right = amount(right);
     println!(rt; "ring, repriced: {right}; {stale} with the distances of before")?;
-    hold(right == 2 && stale == 6, "the ring")
+    hold(right == 2 && stale == 6, Wrong::TheRing)
 }
 
 // A worst road class and money: of two together the class is the worse one.
@@ -114,7 +114,7 @@ fn worst_class(rt: &HostRuntime) -> Result<(), Fault> {
     let first = is_before(a, b);
     let then = is_before(together(a, c), together(b, c));
     println!(rt; "worst class, then money: before {first}, with the same joined to each {then}")?;
-    hold(first && !then, "worst class, then money")
+    hold(first && !then, Wrong::WorstClassThenMoney)
 }
 
 pub fn all_false(rt: &HostRuntime) -> Result<(), Fault> {

@@ -1,6 +1,6 @@
 // Holds what a sequence got against the trial's own record and the solver that looks at every set of runs.
 use crate::calls::take;
-use crate::fault::{Fault, hold};
+use crate::fault::{Fault, Wrong, hold};
 use crate::tally::{Tally, count};
 use crate::ways::{LABELS, Outcome, Sequence, UNTOUCHED};
 use network::Cost;
@@ -35,22 +35,22 @@ fn plan_fails<K: Kind>(record: &Record<K>, allowance: Allowance, row: usize, fit
 fn judge_row<K: Kind>(record: &Record<K>, cost: K, row: &[u8]) -> Result<(), Fault> {
     for (i, mark) in row.iter().enumerate() {
         if i < record.runs.len() {
-            hold(*mark < 2, "a byte of the row")?;
+            hold(*mark < 2, Wrong::AByteOfTheRow)?;
         } else {
-            hold(*mark == UNTOUCHED, "a byte beyond the runs")?;
+            hold(*mark == UNTOUCHED, Wrong::AByteBeyondTheRuns)?;
         }
     }
     let set = dug(row);
     hold(
         alike(cost_of(&record.runs, set), Some(cost)),
-        "the cost of the runs",
+        Wrong::TheCostOfTheRuns,
     )?;
     let mut joined = false;
     for j in 0..16 {
         let seen = grown(&record.runs, set, bit(j));
         joined = joined || has(seen, record.outlets);
     }
-    hold(joined, "the runs join the outlets")
+    hold(joined, Wrong::TheRunsJoinTheOutlets)
 }
 
 // A plan that was found: no set of runs that joins the outlets costs less.
@@ -62,9 +62,12 @@ fn judge_found<K: Kind>(
     row: &[u8],
 ) -> Result<(), Fault> {
     let cost = K::of(said.crossings, said.money);
-    hold(alike(least, Some(cost)), "the least cost")?;
-    hold(said.count <= limit, "the count of a plan")?;
-    hold(said.count as usize <= record.turns(), "the turns of a plan")?;
+    hold(alike(least, Some(cost)), Wrong::TheLeastCost)?;
+    hold(said.count <= limit, Wrong::TheCountOfAPlan)?;
+    hold(
+        said.count as usize <= record.turns(),
+        Wrong::TheTurnsOfAPlan,
+    )?;
     judge_row(record, cost, row)
 }
 
@@ -75,13 +78,13 @@ fn judge_stopped<K: Kind>(
     least: Option<K>,
     said: Said,
 ) -> Result<(), Fault> {
-    hold(said.count == limit, "the count at the limit")?;
-    hold((limit as usize) < record.turns(), "a limit that suffices")?;
+    hold(said.count == limit, Wrong::TheCountAtTheLimit)?;
+    hold((limit as usize) < record.turns(), Wrong::ALimitThatSuffices)?;
     match least {
         None => Ok(()),
         Some(cost) => {
             let floor = K::of(said.crossings, said.money);
-            hold(!cost.is_below(floor), "the floor")
+            hold(!cost.is_below(floor), Wrong::TheFloor)
         }
     }
 }
@@ -97,17 +100,17 @@ fn judge_plan<K: Kind>(
 ) -> Result<(), Fault> {
     let fails = plan_fails(record, allowance, row.len(), fits);
     if fails > 0 {
-        hold(said == only(fails), "the refusal of a plan")?;
-        return hold(dug(row) == 0, "the row of a refused plan");
+        hold(said == only(fails), Wrong::TheRefusalOfAPlan)?;
+        return hold(dug(row) == 0, Wrong::TheRowOfARefusedPlan);
     }
     match said.number {
         0 => judge_found(record, allowance.limit, least, said, row),
         18 => hold(
             said.count <= allowance.limit && least.is_none(),
-            "no set of runs joins the outlets",
+            Wrong::NoSetOfRunsJoinsTheOutlets,
         ),
         19 => judge_stopped(record, allowance.limit, least, said),
-        _ => Err(Fault::Wrong("a plan that is refused")),
+        _ => Err(Fault::Wrong(Wrong::APlanThatIsRefused)),
     }
 }
 
@@ -151,7 +154,7 @@ fn judge_turn<K: Kind>(
         Call::Plan(allowance) => judge_plan(record, allowance, least, fits, said, &turn.row)?,
         call => hold(
             said == must_say(record, call, fails),
-            "the answer of a call",
+            Wrong::TheAnswerOfACall,
         )?,
     }
     tell(tally, turn.call, said);
@@ -172,10 +175,10 @@ fn judge_turns<K: Kind>(
         tally.way = way;
         let fits = way < 2 || record.junctions.saturating_mul(12) <= distances as u64;
         let Some(turn) = outcome.turns.get(tally.call) else {
-            return Err(Fault::Wrong("a turn is missing"));
+            return Err(Fault::Wrong(Wrong::ATurnIsMissing));
         };
         let said = judge_turn(record, fails, least, fits, turn, tally)?;
-        hold(way % 2 == 0 || said == before, "both queues")?;
+        hold(way % 2 == 0 || said == before, Wrong::BothQueues)?;
         before = said;
     }
     Ok(())
@@ -188,14 +191,14 @@ fn judge_making<K: Kind>(
     tally: &mut Tally,
 ) -> Result<(), Fault> {
     for outcome in outcomes {
-        hold(outcome.making == fails, "the making")?;
+        hold(outcome.making == fails, Wrong::TheMaking)?;
         count(&mut tally.calls);
         if fails > 0 {
             tally.refuse(fails);
             for turn in outcome.turns.iter() {
                 hold(
                     read_answer(&turn.answer, &turn.row) == only(99),
-                    "a turn of no district",
+                    Wrong::ATurnOfNoDistrict,
                 )?;
             }
         }
