@@ -4,7 +4,8 @@
 usage: python3 tools/respell.py [FOLDER] [--list]     rewrites the .rt and .antt files below FOLDER/crates in place
 
 Names that the toolchain makes (goals, and the steps of a proof that stand right after `c.`, `w.` or `l.`) stay as they are,
-and so do functions of src/, strings and local names. It says which names it turned, and stops where two would fall together.
+and so do functions of src/ and strings. It says how many names it turned, or with --list which; names that would fall together it
+leaves as they are, and says so.
 """
 import os
 import re
