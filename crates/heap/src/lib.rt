@@ -7,6 +7,7 @@ mod methods;
 mod tests;
 
 ghost use Rattle.std.specs.Prelude.{◌^◌, ◌<◌, ◌≤◌, length};
+ghost use Rattle.heap.specs.Places.{Found};
 
 #[derive(Drop)]
 pub struct Heap<'m, K> {
@@ -21,4 +22,7 @@ pub struct Heap<'m, K> {
     // By code: its place in `codes`, where it waits, and anything where it does not.
     places: &'m mut [u32],
     ghost room: { (cap < 2 ^ 32) × (cap ≤ length keys.now) × (cap ≤ length codes.now) × (cap ≤ length places.now) },
+    ghost within: { len ≤ cap },
+    // Each code that waits is below the capacity, and its place is noted.
+    ghost found: { Found len cap codes.now places.now },
 }
