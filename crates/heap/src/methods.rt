@@ -25,16 +25,6 @@ fn place_over(at: u32) -> u32
     (at - 1) / 2
 }
 
-// Whether the code `a` comes before `b`: by the keys, and then by the codes.
-fn is_before<K: Cost>(keys: &[K], a: u32, b: u32) -> bool
-    requires { (a < length keys.now) × (b < length keys.now) }
-    ensures { Tells K.Cost.kind.below keys.now a b result }
-{
-    let first = keys[a as usize];
-    let second = keys[b as usize];
-    first.is_below(second) || (!second.is_below(first) && a < b)
-}
-
 // Exchanges the codes at two places, and what is noted for them.
 fn exchange(codes: &mut [u32], places: &mut [u32], i: usize, j: usize)
     requires inside { (i < length codes.old) × (j < length codes.old) }
@@ -99,14 +89,16 @@ impl<'m, K: Cost> Heap<'m, K> {
         }
     }
 
-    // Whether the code at one place comes before that at another.
+    // Whether the code at one place comes before that at another: by their keys, and then by the codes.
     fn precedes(&self, i: u32, j: u32) -> bool
         requires inside { (i < self.now.len) × (j < self.now.len) }
         ensures { Tells K.Cost.kind.below self.now.keys.now (slice_index self.now.codes.now i) (slice_index self.now.codes.now j) result }
     {
         let a = self.codes[i as usize];
         let b = self.codes[j as usize];
-        is_before(&*self.keys, a, b)
+        let first = self.keys[a as usize];
+        let second = self.keys[b as usize];
+        first.is_below(second) || (!second.is_below(first) && a < b)
     }
 
     // Whether `key` is below the key of a code.

@@ -9,19 +9,6 @@ use Rattle.heap.proofs.Stands.{at_waits}
 use Rattle.heap.proofs.Changes.{insert_made, insert_but}
 use Rattle.heap.proofs.Heap.insert.Goals as goal
 
-pub rise-requires : goal.rise-requires
-rise-requires g c =
-    let h = c.args.self.now in
-    let codes = h.codes.now in
-    let places = h.places.now in
-    let code = c.args.code in
-    let made = c.append.ensures in
-    record {
-      inside = omega (arith, made.lens);
-      but = made_but_at made g.K.Cost.kind.below h.len
-          (λ d. insert_but codes places h.len h.cap code c.requires.inside h.room.3 h.room.2 h.found c.requires.waits h.keys.now c.args.key g.K.Cost.kind.below d (c.requires.good.ordered d));
-    }
-
 pub returns : goal.returns
 unfolding heap_waits
 returns g c =

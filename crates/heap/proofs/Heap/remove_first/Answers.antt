@@ -5,19 +5,6 @@ use Rattle.heap.proofs.First.{taken_first, taken_none}
 use Rattle.heap.proofs.Made.{made_waits, made_but_under}
 use Rattle.heap.proofs.Heap.remove_first.Goals as goal
 
-pub sink-requires : goal.sink-requires
-sink-requires g c =
-    let h = c.args.self.now in
-    let codes = h.codes.now in
-    let places = h.places.now in
-    let made = c.last_to_first.ensures in
-    let pos = c.if-self-gt0.true in
-    let coded : h.len ≤ length codes = omega (arith, h.within, h.room.2) in
-    record {
-      but = made_but_under made g.K.Cost.kind.below 0
-          (λ d. remove_but codes places h.len h.cap pos h.room.3 coded h.found (before g.K.Cost.kind.below h.keys.now d) (c.requires.ordered d));
-    }
-
 pub returns-then-self-gt0 : goal.returns-then-self-gt0
 unfolding heap_waits
 returns-then-self-gt0 g c =
