@@ -1,5 +1,4 @@
-use Rattle.std.proofs.Common.{◌≡◌, true, ◌&&◌, ◌++◌, length, take, sym, refl, ap, ◌∙◌, arith, rules}
-use Rattle.std.proofs.lemmas.List.{length-take-le}
+use Rattle.std.proofs.Common.{◌≡◌, true, ◌&&◌, ◌++◌, length, sym, refl}
 use Rattle.std.proofs.lemmas.Bool.{and_parts}
 use Rattle.district.specs.Model.{layout_of}
 use Rattle.network.specs.declared.refusal.Refusal.TheVariants.{EstimatorFit}
@@ -14,20 +13,15 @@ returns g c =
     let A = g.A.Estimator in
     let B = g.B.Estimator in
     let n = V.junctions in
-    let k = V.outlets.count in
-    let ps = V.outlets.places in
-    let twelve : length ps ≡ 12 = search rules in
-    let few = V.outlets.few in
-    let long : length (take k ps) ≡ k = length-take-le k ps (omega arith) in
-    let fit : A.within S.first n (length (take k ps)) && B.within S.second n (length (take k ps)) ≡ true =
-    ap (λ m. A.within S.first n m && B.within S.second n m) long ∙ sym c.if-not-fits.ensures in
+    let k = length V.outlets.now in
+    let fit : A.within S.first n k && B.within S.second n k ≡ true = sym c.if-not-fits.ensures in
     let went = c.prepare.ensures in
     let went-2 = c.prepare-2.ensures in
     record {
-      answers = both_fit (A.within S.first n (length (take k ps))) (B.within S.second n (length (take k ps))) _ _ _ fit went-2.answers;
+      answers = both_fit (A.within S.first n k) (B.within S.second n k) _ _ _ fit went-2.answers;
       lends = λ i. went.lends i ++ went-2.lends i;
       room = λ i n k. went.room i n k && went-2.room i n k;
-      keeps = λ e. not_refused (B.within S.second n (length (take k ps))) tt EstimatorFit _ (and_parts _ _ fit).1 went-2.answers e;
+      keeps = λ e. not_refused (B.within S.second n k) tt EstimatorFit _ (and_parts _ _ fit).1 went-2.answers e;
       made = λ e. record {
         first = A.bound c.prepare.new.self;
         second = B.bound c.prepare-2.new.self;
