@@ -16,6 +16,7 @@ use network::{Cost, Junction, Refusal};
 use queue::Queue;
 
 // The set of the outlet at the place i alone.
+#[tactic(auto, using(std::proofs::lemmas::Nat::one_shl))]
 fn bit(i: usize) -> u16
     requires { i < 16 }
     ensures { result ≡ 2 ^ i }

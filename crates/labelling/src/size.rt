@@ -9,6 +9,7 @@ use district::view::View;
 use network::{Cost, Junction, Refusal};
 
 // How many sets the outlets but one have.
+#[tactic(auto, using(std::proofs::lemmas::Nat::one_shl))]
 pub(crate) fn sets_of(outlets: u8) -> u16
     requires { (0 < outlets) × (outlets ≤ 12) }
     ensures { result ≡ 2 ^ (outlets - 1) }
