@@ -8,14 +8,13 @@ use crate::kinds::Size;
 use district::view::View;
 use network::{Cost, Junction, Refusal};
 
-// By the number of outlets, from one to twelve: how many sets the others have.
-const SETS: [u16; 12] = [1, 2, 4, 8, 16, 32, 64, 128, 256, 512, 1024, 2048];
-
+// How many sets the outlets but one have.
+#[tactic(auto, using(std::proofs::lemmas::Nat::one_shl))]
 pub(crate) fn sets_of(outlets: u8) -> u16
     requires { (0 < outlets) × (outlets ≤ 12) }
     ensures { result ≡ 2 ^ (outlets - 1) }
 {
-    SETS[outlets as usize - 1]
+    1 << (outlets - 1)
 }
 
 impl Size {
