@@ -2,11 +2,8 @@
 #![tactic(auto)]
 
 mod command;
-mod digits;
-mod lines;
 mod parts;
 mod read;
-mod words;
 
 pub use command::{Call, Command, EstimatorChoice, PlanWords, QueueChoice};
 pub use lines::next_line;
