@@ -6,5 +6,5 @@ mod parts;
 mod read;
 
 pub use command::{Call, Command, EstimatorChoice, PlanWords, QueueChoice};
-pub use lines::next_line;
+pub use lines::{Lines, next_line};
 pub use read::read_line;

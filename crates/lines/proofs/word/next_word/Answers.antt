@@ -15,4 +15,4 @@ returns c =
     let end : word_end rest ≡ c.unwrap_or.result = sym (c.unwrap_or.ensures ∙ ap (λ o. unwrap_or o (length rest)) c.word_end.ensures ∙ at_or_len blank rest) in
     let some : 0 < word_end rest = subst (λ l. 0 < word_end l) (sym from) (begins line (omega (arith, start))) in
     sym (skipped line) ∙ sym (ap words from) ∙ worded rest some ∙ ap (λ n. take n rest ∷ words (drop n rest)) end
-      ∙ ap (λ w. w ∷ words (drop c.unwrap_or.result rest)) (sym c.split_at-2.ensures.front) ∙ ap (λ l. c.split_at-2.result.0.now ∷ words l) (sym c.split_at-2.ensures.back)
+    ∙ ap (λ w. w ∷ words (drop c.unwrap_or.result rest)) (sym c.split_at-2.ensures.front) ∙ ap (λ l. c.split_at-2.result.0.now ∷ words l) (sym c.split_at-2.ensures.back)
