@@ -1,7 +1,6 @@
 -- The steps of the loops that find distances. Assumes nothing.
-use Rattle.std.proofs.Common.{◌≡◌, ℕ, zero, suc, ◌+◌, ◌-◌, ◌*◌, ◌<◌, ◌≤◌, Bool, true, false, cond, ◌≢◌, List, [], ◌∷◌, ◌++◌, length, get_or, drop, set, replicate, Some, None, Option, unwrap_or, sym, refl, ap, ◌∙◌, add-one, arith, below_more}
-use lib.ListN.{length-replicate, get_or-replicate}
-use Rattle.std.proofs.lemmas.List.{ext_get_or, get_or-set_same, get_or-set_other, drop_more, drop_all}
+use Rattle.std.proofs.Common.{◌≡◌, ℕ, zero, suc, ◌+◌, ◌-◌, ◌*◌, ◌<◌, ◌≤◌, Bool, true, false, cond, List, [], ◌∷◌, ◌++◌, length, get_or, drop, set, replicate, Some, None, Option, unwrap_or, sym, refl, ap, ◌∙◌, add-one, arith}
+use Rattle.std.proofs.lemmas.List.{drop_more, drop_all}
 use Rattle.std.proofs.lemmas.Bool.{cond-true, cond-false}
 use Rattle.network.specs.Costs.{Kind}
 use Rattle.network.specs.declared.run.Run.{Run}
@@ -63,14 +62,6 @@ module _ {K : Type 0} (kind : Kind K) where
 
 pub outlets_more : {K : Type 0} (kind : Kind K) (x : K) (j : ℕ) (ps : List ℕ) (ds₀ ds : List (Option K)) → ds ≡ with_outlets kind j ps ds₀ → x ≡ kind.zero → set ds (get_or ps j 0 * 12 + j) (Some x) ≡ with_outlets kind (j + 1) ps ds₀
 outlets_more kind x j ps ds₀ ds e f = rw add-one (ap (λ y. set y (get_or ps j 0 * 12 + j) (Some x)) e ∙ ap (λ y. set (with_outlets kind j ps ds₀) (get_or ps j 0 * 12 + j) (Some y)) f)
-
-pub clear_more : {K : Type 0} (ds : List (Option K)) (i : ℕ) → i < length ds → ((k : ℕ) → k < i → get_or ds k None ≡ None) → (k : ℕ) → k < i + 1 → get_or (set ds i None) k None ≡ None
-clear_more ds i l f =
-    below_more (λ k. get_or (set ds i None) k None ≡ None) i (λ k m. let ne : k ≢ i = omega arith in get_or-set_other ds i k None None ne ∙ f k m) (get_or-set_same ds i None None l)
-
-pub clear_all : {K : Type 0} (ds : List (Option K)) (n : ℕ) → length ds ≡ n → ((k : ℕ) → k < n → get_or ds k None ≡ None) → ds ≡ replicate n None
-clear_all ds n e f =
-    ext_get_or None ds (replicate n None) (e ∙ sym (length-replicate n None)) (λ k m. let l : k < n = omega arith in f k l ∙ sym (get_or-replicate n k None None l))
 
 -- one outlet more of the farthest
 module _ {K : Type 0} (kind : Kind K) (ds : Distances K) (v I j : ℕ) (best new : K) (e : best ≡ farthest kind ds v I j) where

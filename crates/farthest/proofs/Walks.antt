@@ -1,5 +1,5 @@
 -- Walks along runs: from each a set of runs is left that joins the same ends and costs no more. Assumes nothing.
-use Rattle.std.proofs.Common.{◌≡◌, ℕ, zero, suc, ◌+◌, ◌≤◌, Bool, false, ◌⊎◌, List, [], ◌∷◌, length, sym, refl, ap, ◌∙◌, subst, inl, inr, arith}
+use Rattle.std.proofs.Common.{◌≡◌, ℕ, zero, suc, ◌+◌, ◌≤◌, false, ◌⊎◌, List, [], ◌∷◌, length, sym, refl, ap, ◌∙◌, subst, inl, inr, arith}
 use Rattle.network.specs.Costs.{Kind, Laws}
 use Rattle.network.specs.declared.run.Run.{Run}
 use Rattle.farthest.proofs.Graph.{Spans, Joins, here, there, Way, stay, go, Within, Part, none, leave, keep, total, Walk, stand, step}
