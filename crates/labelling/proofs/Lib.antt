@@ -6,6 +6,7 @@ pub mod Labels
 pub mod Starting
 pub mod Apart
 pub mod Viewing
+pub mod Desks
 pub mod Standing
 pub mod Writing
 pub mod Folding

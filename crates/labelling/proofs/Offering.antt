@@ -1,16 +1,15 @@
 -- A kept candidate keeps the queue and the tables together. Assumes nothing.
-use Rattle.std.proofs.Common.{◌≡◌, ℕ, ◌+◌, ◌/◌, ◌%◌, ◌<◌, ◌≤◌, Bool, true, false, cond, eqb, ltb, ◌≢◌, List, length, get_or, set, Some, None, Option, sym, refl, ap, ◌∙◌, subst, ⊎_elim, arith}
+use Rattle.std.proofs.Common.{◌≡◌, ℕ, ◌+◌, ◌/◌, ◌%◌, ◌<◌, ◌≤◌, Bool, true, false, cond, eqb, ltb, ◌≢◌, List, length, get_or, Some, None, Option, sym, refl, ap, ◌∙◌, subst, ⊎_elim, arith}
 use lib.Arith.{digits_lt, digits_div, digits_mod}
 use Rattle.std.proofs.lemmas.List.{length-set, get_or-set_same, get_or-set_other}
 use Rattle.std.proofs.lemmas.Bool.{cases_eq, cond-true, cond-false, lt-ltb}
 use Rattle.network.specs.Costs.{Laws}
 use Rattle.queue.specs.Waits.{lowered, put_in}
 use Rattle.labelling.specs.declared.kinds.Label.{Label}
-use Rattle.labelling.specs.declared.kinds.Way.{Way}
 use Rattle.labelling.specs.declared.kinds.Back.{Back}
 use Rattle.labelling.specs.declared.kinds.Place.{Place}
 use Rattle.labelling.specs.declared.kinds.Size.{Size}
-use Rattle.labelling.specs.Tables.{Rule, sum_of, Tables, tables, codes, code_of, label_at, turn_at, key_at, no_way, Ready}
+use Rattle.labelling.specs.Tables.{Rule, sum_of, Tables, codes, code_of, label_at, turn_at, key_at, no_way, Ready}
 use Rattle.labelling.specs.Offers.{improves, written, keyed, offered}
 
 pub code_within : (s : Size) (v i : ℕ) → v < s.junctions → i < s.sets → code_of s v i < codes s
@@ -99,15 +98,12 @@ module _ {K : Type 0} (r : Rule K) (laws : Laws r.kind) (t : Tables K) (p : Plac
         ap (keyed r t (code_of r.size p.v p.set) p.cost b) is_sum
         ∙ ap (λ n. cond (improves r t n p.cost) (written t n p.cost b) t) (sym here)
 
-    module _ (h : true ≡ improves r t code p.cost) (ls : List (Label K)) (ws : List Way) (is-ls : ls ≡ set t.labels code (record { reached = true; cost = p.cost })) (is-ws : ws ≡ set t.ways code (record { turn = 0; back = b })) where
-      tables_are : tables ls ws ≡ written t code p.cost b
-      tables_are = ap (λ x. tables x ws) is-ls ∙ ap (λ x. tables (set t.labels code (record { reached = true; cost = p.cost })) x) is-ws
+    module _ (h : true ≡ improves r t code p.cost) where
+      pub offer_kept : written t code p.cost b ≡ offered r t p b
+      offer_kept = sym (offered_some ∙ cond-true _ _ _ (sym h))
 
-      pub offer_kept : tables ls ws ≡ offered r t p b
-      offer_kept = tables_are ∙ sym (offered_some ∙ cond-true _ _ _ (sym h))
-
-      pub offer_ready : (ks ks' : List (Option K)) → p.v < r.size.junctions → p.set < r.size.sets → ks' ≡ put_in r.kind.below ks code key → Ready r t ks → Ready r (tables ls ws) ks'
+      pub offer_ready : (ks ks' : List (Option K)) → p.v < r.size.junctions → p.set < r.size.sets → ks' ≡ put_in r.kind.below ks code key → Ready r t ks → Ready r (written t code p.cost b) ks'
       offer_ready ks ks' v i is-ks ready =
           let at_code = ap (λ n. sum_of r p.cost (r.bound (n / r.size.sets) (n % r.size.sets))) here ∙ sum_at_code r p.v p.set p.cost i ∙ is_sum in
           let done = written_ready r laws t code p.cost ks b key (offer_within v i) at_code (sym h) ready in
-          subst (λ x. Ready r x ks') (sym tables_are) (subst (Ready r (written t code p.cost b)) (sym is-ks) done)
+          subst (Ready r (written t code p.cost b)) (sym is-ks) done

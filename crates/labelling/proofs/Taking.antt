@@ -10,7 +10,7 @@ use Rattle.labelling.specs.declared.kinds.Way.{Way}
 use Rattle.labelling.specs.declared.kinds.Place.{Place}
 use Rattle.network.specs.declared.run.Run.{Run}
 use Rattle.labelling.specs.declared.kinds.Size.{Size}
-use Rattle.labelling.specs.Tables.{Rule, sum_of, Tables, tables, codes, label_at, turn_at, key_at, no_way, with_key, least_to, least_waiting, Ready}
+use Rattle.labelling.specs.Tables.{Rule, sum_of, Tables, codes, label_at, turn_at, key_at, no_way, with_key, least_to, least_waiting, Ready}
 use Rattle.labelling.specs.Runs.{runs_offered}
 use Rattle.labelling.specs.Forks.{forks_offered}
 use Rattle.labelling.specs.Turns.{place_at, settled, turned_at, turned, took}
@@ -74,18 +74,12 @@ module _ {K : Type 0} (r : Rule K) (laws : Laws r.kind) where
     }
 
     -- the turn, by what its steps left
-    module _ (p : K × ℕ) (h : Least r.kind.below ks (Some p)) (n : ℕ) (ws : List Way) (is-ws : ws ≡ (settled t p.1 n).ways) where
-      pub turn_ready : (ks' : List (Option K)) → ks' ≡ set ks p.1 None → 0 < n → Ready r (tables t.labels ws) ks'
-      turn_ready ks' is-ks pos =
-          subst (λ x. Ready r (tables t.labels x) ks') (sym is-ws) (subst (Ready r (settled t p.1 n)) (sym is-ks) (settled_ready p.1 n pos (taken_within p.0 p.1 h.waits)))
-
-      pub turn_done : (marks : List Bool) (runs : List (Run K)) (from : Place K) (t1 t2 : Tables K) → from ≡ place_at r t p.1 → t1 ≡ runs_offered r from marks 0 runs (tables t.labels ws) → t2 ≡ forks_offered r from t1 → t2 ≡ turned r marks runs n t
-      turn_done marks runs from t1 t2 is_from is-t1 is-t2 =
-          is-t2
-          ∙ ap (forks_offered r from) is-t1
-          ∙ ap (λ x. forks_offered r from (runs_offered r from marks 0 runs (tables t.labels x))) is-ws
-          ∙ ap (λ x. forks_offered r x (runs_offered r x marks 0 runs (settled t p.1 n))) is_from
-          ∙ ap (turned_at r marks runs n t) (least_is (Some p) h)
+    pub turn_done : (p : K × ℕ) → Least r.kind.below ks (Some p) → (n : ℕ) (marks : List Bool) (runs : List (Run K)) (from : Place K) (t1 t2 : Tables K) → from ≡ place_at r t p.1 → t1 ≡ runs_offered r from marks 0 runs (settled t p.1 n) → t2 ≡ forks_offered r from t1 → t2 ≡ turned r marks runs n t
+    turn_done p h n marks runs from t1 t2 is_from is-t1 is-t2 =
+        is-t2
+        ∙ ap (forks_offered r from) is-t1
+        ∙ ap (λ x. forks_offered r x (runs_offered r x marks 0 runs (settled t p.1 n))) is_from
+        ∙ ap (turned_at r marks runs n t) (least_is (Some p) h)
 
 -- the junction and the set of a code
 pub sets_some : (s : Size) (c : ℕ) → c < codes s → 0 < s.sets
@@ -103,9 +97,8 @@ set_within s c lt = mod_below c s.sets (sets_some s c lt)
 
 -- the last turn, and any other, by what its steps left
 module _ {K : Type 0} (r : Rule K) (t : Tables K) (marks : List Bool) (runs : List (Run K)) (goal n : ℕ) (p : K × ℕ) (h : Some p ≡ least_waiting r t) where
-  pub took_last : p.1 ≡ goal → (ws : List Way) → ws ≡ (settled t p.1 n).ways → tables t.labels ws ≡ took r marks runs goal n t (least_waiting r t)
-  took_last at ws is-ws =
-      ap (tables t.labels) is-ws ∙ sym (cond-true (eqb p.1 goal) _ _ (eq-eqb p.1 goal at)) ∙ ap (took r marks runs goal n t) h
+  pub took_last : p.1 ≡ goal → settled t p.1 n ≡ took r marks runs goal n t (least_waiting r t)
+  took_last at = sym (cond-true (eqb p.1 goal) _ _ (eq-eqb p.1 goal at)) ∙ ap (took r marks runs goal n t) h
 
   pub took_more : (p.1 ≡ goal → ⊥) → (t' : Tables K) → t' ≡ turned r marks runs n t → t' ≡ took r marks runs goal n t (least_waiting r t)
   took_more off t' is-t =

@@ -1,4 +1,5 @@
 pub mod Tables
+pub mod Desks
 pub mod Offers
 pub mod Runs
 pub mod Forks

@@ -1,11 +1,11 @@
 // The candidates over the settled sets at the same junction.
 ghost use Rattle.std.specs.Prelude.{◌≡◌, ℕ, ◌+◌, ◌<◌, ◌≢◌, bit_and, bit_or};
-ghost use Rattle.labelling.specs.Tables.{rule, tables, Ready, standing};
+ghost use Rattle.labelling.specs.Tables.{rule};
 ghost use Rattle.labelling.specs.Forks.{fork, forks_offered, Closed};
+ghost use Rattle.labelling.specs.Desks.{tables_on, Fit, Kept};
 
-use super::kinds::{Back, Label, Place, Size, Way};
-use super::offer::offer;
-use super::rows::{label_of, turn_of};
+use super::desk::Desk;
+use super::kinds::{Back, Place, Size};
 use estimate::Estimator;
 use network::Cost;
 use queue::Queue;
@@ -22,75 +22,49 @@ fn next_apart(taken: u16, set: u16) -> u16
     after - (after & taken)
 }
 
-fn offer_fork<Q: Queue, E: Estimator<Cost = Q::Cost>>(
-    labels: &mut [Label<Q::Cost>],
-    ways: &mut [Way],
-    queue: &mut Q,
-    estimator: &E,
-    size: Size,
-    from: Place<Q::Cost>,
-    set: u16,
-)
-    requires ready { Ready (rule Q.Cost.Cost.kind (E.bound estimator.now) size) (tables labels.old ways.old) (Q.waiting queue.old) }
-    requires good { Q.ok queue.old }
-    requires junction { from.v < size.junctions }
-    requires outlets { from.set < size.sets }
-    requires others { set < size.sets }
-    requires closed { Closed size.sets }
-    ensures ready { Ready (rule Q.Cost.Cost.kind (E.bound estimator.now) size) (tables labels.new ways.new) (Q.waiting queue.new) }
-    ensures good { Q.ok queue.new }
-    ensures lends { standing (Q.Queue.lender queue.new) (Q.waiting queue.new) ≡ standing (Q.Queue.lender queue.old) (Q.waiting queue.old) }
-    ensures same { tables labels.new ways.new ≡ fork (rule Q.Cost.Cost.kind (E.bound estimator.now) size) from set (tables labels.old ways.old) }
-{
-    if set == 0 {
-        return;
-    }
-    if from.set & set != 0 {
-        return;
-    }
-    let code = size.code(from.v, set);
-    if turn_of(ways, code) == 0 {
-        return;
-    }
-    let other = label_of(labels, code);
-    if let Some(cost) = from.cost.sum(other.cost) {
-        offer(
-            labels,
-            ways,
-            queue,
-            estimator,
-            size,
-            Place {
+impl<'m, Q: Queue, E: Estimator<Cost = Q::Cost>> Desk<'m, Q, E> {
+    fn offer_fork(&mut self, size: Size, from: Place<Q::Cost>, set: u16)
+        requires fit { Fit (rule Q.Cost.Cost.kind (E.bound self.old.estimator) size) Q.waiting Q.ok self.old }
+        requires junction { from.v < size.junctions }
+        requires outlets { from.set < size.sets }
+        requires others { set < size.sets }
+        requires closed { Closed size.sets }
+        ensures kept { Kept (rule Q.Cost.Cost.kind (E.bound self.old.estimator) size) Q.waiting Q.ok Q.Queue.lender self.old self.new }
+        ensures same { tables_on self.new ≡ fork (rule Q.Cost.Cost.kind (E.bound self.old.estimator) size) from set (tables_on self.old) }
+    {
+        if set == 0 {
+            return;
+        }
+        if from.set & set != 0 {
+            return;
+        }
+        let code = size.code(from.v, set);
+        if self.ways[code].turn == 0 {
+            return;
+        }
+        let other = self.label_of(code);
+        if let Some(cost) = from.cost.sum(other.cost) {
+            let to = Place {
                 v: from.v,
                 set: from.set | set,
                 cost,
-            },
-            Back::Fork(set),
-        );
+            };
+            self.offer(size, to, Back::Fork(set));
+        }
     }
-}
 
-pub(crate) fn offer_forks<Q: Queue, E: Estimator<Cost = Q::Cost>>(
-    labels: &mut [Label<Q::Cost>],
-    ways: &mut [Way],
-    queue: &mut Q,
-    estimator: &E,
-    size: Size,
-    from: Place<Q::Cost>,
-)
-    requires ready { Ready (rule Q.Cost.Cost.kind (E.bound estimator.now) size) (tables labels.old ways.old) (Q.waiting queue.old) }
-    requires good { Q.ok queue.old }
-    requires junction { from.v < size.junctions }
-    requires outlets { from.set < size.sets }
-    requires closed { Closed size.sets }
-    ensures ready { Ready (rule Q.Cost.Cost.kind (E.bound estimator.now) size) (tables labels.new ways.new) (Q.waiting queue.new) }
-    ensures good { Q.ok queue.new }
-    ensures lends { standing (Q.Queue.lender queue.new) (Q.waiting queue.new) ≡ standing (Q.Queue.lender queue.old) (Q.waiting queue.old) }
-    ensures same { tables labels.new ways.new ≡ forks_offered (rule Q.Cost.Cost.kind (E.bound estimator.now) size) from (tables labels.old ways.old) }
-{
-    let mut set = next_apart(from.set, 0);
-    while set < size.sets {
-        offer_fork(labels, ways, queue, estimator, size, from, set);
-        set = next_apart(from.set, set);
+    pub(crate) fn offer_forks(&mut self, size: Size, from: Place<Q::Cost>)
+        requires fit { Fit (rule Q.Cost.Cost.kind (E.bound self.old.estimator) size) Q.waiting Q.ok self.old }
+        requires junction { from.v < size.junctions }
+        requires outlets { from.set < size.sets }
+        requires closed { Closed size.sets }
+        ensures kept { Kept (rule Q.Cost.Cost.kind (E.bound self.old.estimator) size) Q.waiting Q.ok Q.Queue.lender self.old self.new }
+        ensures same { tables_on self.new ≡ forks_offered (rule Q.Cost.Cost.kind (E.bound self.old.estimator) size) from (tables_on self.old) }
+    {
+        let mut set = next_apart(from.set, 0);
+        while set < size.sets {
+            self.offer_fork(size, from, set);
+            set = next_apart(from.set, set);
+        }
     }
 }

@@ -1,14 +1,16 @@
 // The turns, within a limit.
-ghost use Rattle.std.specs.Prelude.{◌≡◌, ◌+◌, ◌*◌, ◌^◌, ◌<◌, ◌≤◌, length, ◌==◌};
-ghost use Rattle.labelling.specs.Tables.{rule, tables, Ready, standing};
-ghost use Rattle.labelling.specs.Runs.{Ends};
-ghost use Rattle.labelling.specs.Forks.{Closed};
+ghost use Rattle.std.specs.Prelude.{◌≡◌};
+ghost use Rattle.district.specs.Model.{layout_of};
+ghost use Rattle.labelling.specs.Tables.{rule};
 ghost use Rattle.labelling.specs.Labelling.{labelled, stopped};
+ghost use Rattle.labelling.specs.Desks.{tables_on, Fit, Kept};
+ghost use Rattle.labelling.specs.Starts.{size_of};
 
-use super::kinds::{Ending, Label, Outcome, Size, Way};
-use super::turns::take_turn;
+use super::desk::Desk;
+use super::kinds::{Ending, Outcome, Size};
+use district::view::View;
 use estimate::Estimator;
-use network::{Cost, Run};
+use network::Cost;
 use queue::Queue;
 
 // With no turn left: the floor is the least key that waits.
@@ -21,50 +23,37 @@ fn stop<K: Cost>(least: Option<(K, usize)>) -> Outcome<K>
     }
 }
 
-// Whether every turn of the limit was taken.
-fn is_spent(turns: u32, limit: u32) -> bool
-    ensures { result ≡ (turns == limit) }
-{
-    turns == limit
-}
-
-pub(crate) fn take_turns<Q: Queue, E: Estimator<Cost = Q::Cost>>(
-    labels: &mut [Label<Q::Cost>],
-    ways: &mut [Way],
-    queue: &mut Q,
-    estimator: &E,
-    size: Size,
-    runs: &[Run<Q::Cost>],
-    open: &[bool],
-    goal: usize,
-    limit: u32,
-) -> Ending<Q::Cost>
-    requires ready { Ready (rule Q.Cost.Cost.kind (E.bound estimator.now) size) (tables labels.old ways.old) (Q.waiting queue.old) }
-    requires good { Q.ok queue.old }
-    requires ends { Ends size.junctions runs.now }
-    requires marked { length runs.now ≤ length «open».now }
-    requires numbered { length runs.now ≤ 2 ^ 16 }
-    requires closed { Closed size.sets }
-    ensures ready { Ready (rule Q.Cost.Cost.kind (E.bound estimator.now) size) (tables labels.new ways.new) (Q.waiting queue.new) }
-    ensures good { Q.ok queue.new }
-    ensures lends { standing (Q.Queue.lender queue.new) (Q.waiting queue.new) ≡ standing (Q.Queue.lender queue.old) (Q.waiting queue.old) }
-    ensures same { record { ending = result; left = tables labels.new ways.new } ≡ labelled (rule Q.Cost.Cost.kind (E.bound estimator.now) size) «open».now runs.now goal limit 0 (tables labels.old ways.old) }
-{
-    let mut turns = 0;
-    let outcome = loop {
-        if is_spent(turns, limit) {
-            break stop((*queue).least());
+impl<'m, Q: Queue, E: Estimator<Cost = Q::Cost>> Desk<'m, Q, E> {
+    pub(crate) fn take_turns(
+        &mut self,
+        size: Size,
+        view: &View<'_, Q::Cost>,
+        goal: usize,
+        limit: u32,
+    ) -> Ending<Q::Cost>
+        requires fit { Fit (rule Q.Cost.Cost.kind (E.bound self.old.estimator) size) Q.waiting Q.ok self.old }
+        requires sized { size ≡ size_of (layout_of view.now) }
+        ensures kept { Kept (rule Q.Cost.Cost.kind (E.bound self.old.estimator) size) Q.waiting Q.ok Q.Queue.lender self.old self.new }
+        ensures same { record { ending = result; left = tables_on self.new } ≡ labelled (rule Q.Cost.Cost.kind (E.bound self.old.estimator) size) view.now.«open».now view.now.runs.now goal limit 0 (tables_on self.old) }
+    {
+        for turns in 0..limit {
+            let number = turns + 1;
+            let Some(taken) = self.take_turn(size, view, goal, number) else {
+                return Ending {
+                    outcome: Outcome::NoneWaits,
+                    turns,
+                };
+            };
+            if taken.1 == goal {
+                return Ending {
+                    outcome: Outcome::Finished,
+                    turns: number,
+                };
+            }
         }
-        let number = turns + 1;
-        let Some(taken) = take_turn(
-            labels, ways, queue, estimator, size, runs, open, goal, number,
-        ) else {
-            break Outcome::NoneWaits;
-        };
-        turns += 1;
-        if taken.1 == goal {
-            break Outcome::Finished;
+        Ending {
+            outcome: stop(self.queue.least()),
+            turns: limit,
         }
-    };
-    Ending { outcome, turns }
+    }
 }

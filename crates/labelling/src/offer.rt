@@ -1,57 +1,41 @@
 // One candidate for a label.
-ghost use Rattle.std.specs.Prelude.{◌≡◌, ◌<◌, true, false, length};
-ghost use Rattle.labelling.specs.Tables.{rule, tables, Ready, standing};
+ghost use Rattle.std.specs.Prelude.{◌≡◌, ◌<◌, length};
+ghost use Rattle.labelling.specs.Tables.{rule};
 ghost use Rattle.labelling.specs.Offers.{improves, offered};
+ghost use Rattle.labelling.specs.Desks.{tables_on, Fit, Kept};
 
-use super::kinds::{Back, Label, Place, Size, Way};
-use super::rows::{label_of, set_label, set_way, turn_of};
+use super::desk::Desk;
+use super::kinds::{Back, Place, Size};
 use estimate::Estimator;
 use network::Cost;
 use queue::Queue;
 
-fn improves_on<K: Cost>(labels: &[Label<K>], ways: &[Way], code: usize, cost: K) -> bool
-    requires { (code < length labels.now) × (code < length ways.now) }
-    ensures { (e : _) (s : _) → result ≡ improves (rule K.Cost.kind e s) (tables labels.now ways.now) code cost }
-{
-    if turn_of(ways, code) != 0 {
-        return false;
+impl<'m, Q: Queue, E: Estimator<Cost = Q::Cost>> Desk<'m, Q, E> {
+    fn improves_on(&self, code: usize, cost: Q::Cost) -> bool
+        requires { (code < length self.now.labels.now) × (code < length self.now.ways.now) }
+        ensures { (e : _) (s : _) → result ≡ improves (rule Q.Cost.Cost.kind e s) (tables_on self.now) code cost }
+    {
+        if self.ways[code].turn != 0 {
+            return false;
+        }
+        let label = self.labels[code];
+        !label.reached || cost.is_below(label.cost)
     }
-    let label = label_of(labels, code);
-    !label.reached || cost.is_below(label.cost)
-}
 
-pub(crate) fn offer<Q: Queue, E: Estimator<Cost = Q::Cost>>(
-    labels: &mut [Label<Q::Cost>],
-    ways: &mut [Way],
-    queue: &mut Q,
-    estimator: &E,
-    size: Size,
-    to: Place<Q::Cost>,
-    back: Back,
-)
-    requires ready { Ready (rule Q.Cost.Cost.kind (E.bound estimator.now) size) (tables labels.old ways.old) (Q.waiting queue.old) }
-    requires good { Q.ok queue.old }
-    requires junction { to.v < size.junctions }
-    requires outlets { to.set < size.sets }
-    ensures ready { Ready (rule Q.Cost.Cost.kind (E.bound estimator.now) size) (tables labels.new ways.new) (Q.waiting queue.new) }
-    ensures good { Q.ok queue.new }
-    ensures lends { standing (Q.Queue.lender queue.new) (Q.waiting queue.new) ≡ standing (Q.Queue.lender queue.old) (Q.waiting queue.old) }
-    ensures same { tables labels.new ways.new ≡ offered (rule Q.Cost.Cost.kind (E.bound estimator.now) size) (tables labels.old ways.old) to back }
-{
-    let code = size.code(to.v, to.set);
-    // Most candidates are not kept, and an estimate takes longer than to see that.
-    if improves_on(labels, ways, code, to.cost) {
-        if let Some(key) = to.cost.sum(estimator.estimate(to.v, to.set)) {
-            set_label(
-                labels,
-                code,
-                Label {
-                    reached: true,
-                    cost: to.cost,
-                },
-            );
-            set_way(ways, code, Way { turn: 0, back });
-            let _ = queue.put(code, key);
+    pub(crate) fn offer(&mut self, size: Size, to: Place<Q::Cost>, back: Back)
+        requires fit { Fit (rule Q.Cost.Cost.kind (E.bound self.old.estimator) size) Q.waiting Q.ok self.old }
+        requires junction { to.v < size.junctions }
+        requires outlets { to.set < size.sets }
+        ensures kept { Kept (rule Q.Cost.Cost.kind (E.bound self.old.estimator) size) Q.waiting Q.ok Q.Queue.lender self.old self.new }
+        ensures same { tables_on self.new ≡ offered (rule Q.Cost.Cost.kind (E.bound self.old.estimator) size) (tables_on self.old) to back }
+    {
+        let code = size.code(to.v, to.set);
+        // Most candidates are not kept, and an estimate takes longer than to see that.
+        if self.improves_on(code, to.cost) {
+            if let Some(key) = to.cost.sum(self.estimator.estimate(to.v, to.set)) {
+                let _ = self.queue.put(code, key);
+                self.write(code, to.cost, back);
+            }
         }
     }
 }

@@ -1,10 +1,14 @@
 // The candidates over the runs that end at a junction.
-ghost use Rattle.std.specs.Prelude.{◌≡◌, ◌^◌, ◌<◌, ◌≤◌, length};
-ghost use Rattle.labelling.specs.Tables.{rule, tables, Ready, standing};
-ghost use Rattle.labelling.specs.Runs.{other_end, along, runs_offered, Ends};
+ghost use Rattle.std.specs.Prelude.{◌≡◌, ◌<◌};
+ghost use Rattle.district.specs.Model.{layout_of};
+ghost use Rattle.labelling.specs.Tables.{rule};
+ghost use Rattle.labelling.specs.Runs.{other_end, along_to, runs_offered};
+ghost use Rattle.labelling.specs.Desks.{tables_on, Fit, Kept};
+ghost use Rattle.labelling.specs.Starts.{size_of};
 
-use super::kinds::{Back, Label, Place, Size, Way};
-use super::offer::offer;
+use super::desk::Desk;
+use super::kinds::{Back, Place, Size};
+use district::view::View;
 use estimate::Estimator;
 use network::{Cost, Junction, Run, RunNumber};
 use queue::Queue;
@@ -21,79 +25,38 @@ fn other_end<K: Cost>(run: &Run<K>, v: Junction) -> Option<Junction>
     }
 }
 
-fn offer_run<Q: Queue, E: Estimator<Cost = Q::Cost>>(
-    labels: &mut [Label<Q::Cost>],
-    ways: &mut [Way],
-    queue: &mut Q,
-    estimator: &E,
-    size: Size,
-    from: Place<Q::Cost>,
-    number: RunNumber,
-    mark: bool,
-    run: &Run<Q::Cost>,
-)
-    requires ready { Ready (rule Q.Cost.Cost.kind (E.bound estimator.now) size) (tables labels.old ways.old) (Q.waiting queue.old) }
-    requires good { Q.ok queue.old }
-    requires ends { (run.now.a < size.junctions) × (run.now.b < size.junctions) }
-    requires outlets { from.set < size.sets }
-    ensures ready { Ready (rule Q.Cost.Cost.kind (E.bound estimator.now) size) (tables labels.new ways.new) (Q.waiting queue.new) }
-    ensures good { Q.ok queue.new }
-    ensures lends { standing (Q.Queue.lender queue.new) (Q.waiting queue.new) ≡ standing (Q.Queue.lender queue.old) (Q.waiting queue.old) }
-    ensures same { tables labels.new ways.new ≡ along (rule Q.Cost.Cost.kind (E.bound estimator.now) size) from number mark run.now (tables labels.old ways.old) }
-{
-    if mark {
+impl<'m, Q: Queue, E: Estimator<Cost = Q::Cost>> Desk<'m, Q, E> {
+    // Over one run, which is open.
+    fn offer_run(&mut self, size: Size, from: Place<Q::Cost>, number: RunNumber, run: &Run<Q::Cost>)
+        requires fit { Fit (rule Q.Cost.Cost.kind (E.bound self.old.estimator) size) Q.waiting Q.ok self.old }
+        requires ends { (run.now.a < size.junctions) × (run.now.b < size.junctions) }
+        requires outlets { from.set < size.sets }
+        ensures kept { Kept (rule Q.Cost.Cost.kind (E.bound self.old.estimator) size) Q.waiting Q.ok Q.Queue.lender self.old self.new }
+        ensures same { tables_on self.new ≡ along_to (rule Q.Cost.Cost.kind (E.bound self.old.estimator) size) (tables_on self.old) from number run.now (other_end run.now from.v) }
+    {
         if let Some(w) = other_end(run, from.v) {
             if let Some(cost) = from.cost.sum(run.cost) {
-                offer(
-                    labels,
-                    ways,
-                    queue,
-                    estimator,
-                    size,
-                    Place {
-                        v: w,
-                        set: from.set,
-                        cost,
-                    },
-                    Back::Run(number),
-                );
+                let to = Place {
+                    v: w,
+                    set: from.set,
+                    cost,
+                };
+                self.offer(size, to, Back::Run(number));
             }
         }
     }
-}
 
-pub(crate) fn offer_runs<Q: Queue, E: Estimator<Cost = Q::Cost>>(
-    labels: &mut [Label<Q::Cost>],
-    ways: &mut [Way],
-    queue: &mut Q,
-    estimator: &E,
-    size: Size,
-    from: Place<Q::Cost>,
-    runs: &[Run<Q::Cost>],
-    open: &[bool],
-)
-    requires ready { Ready (rule Q.Cost.Cost.kind (E.bound estimator.now) size) (tables labels.old ways.old) (Q.waiting queue.old) }
-    requires good { Q.ok queue.old }
-    requires ends { Ends size.junctions runs.now }
-    requires marked { length runs.now ≤ length «open».now }
-    requires numbered { length runs.now ≤ 2 ^ 16 }
-    requires outlets { from.set < size.sets }
-    ensures ready { Ready (rule Q.Cost.Cost.kind (E.bound estimator.now) size) (tables labels.new ways.new) (Q.waiting queue.new) }
-    ensures good { Q.ok queue.new }
-    ensures lends { standing (Q.Queue.lender queue.new) (Q.waiting queue.new) ≡ standing (Q.Queue.lender queue.old) (Q.waiting queue.old) }
-    ensures same { tables labels.new ways.new ≡ runs_offered (rule Q.Cost.Cost.kind (E.bound estimator.now) size) from «open».now 0 runs.now (tables labels.old ways.old) }
-{
-    for (i, run) in runs.iter().enumerate() {
-        offer_run(
-            labels,
-            ways,
-            queue,
-            estimator,
-            size,
-            from,
-            i as RunNumber,
-            open[i],
-            run,
-        );
+    pub(crate) fn offer_runs(&mut self, size: Size, from: Place<Q::Cost>, view: &View<'_, Q::Cost>)
+        requires fit { Fit (rule Q.Cost.Cost.kind (E.bound self.old.estimator) size) Q.waiting Q.ok self.old }
+        requires sized { size ≡ size_of (layout_of view.now) }
+        requires outlets { from.set < size.sets }
+        ensures kept { Kept (rule Q.Cost.Cost.kind (E.bound self.old.estimator) size) Q.waiting Q.ok Q.Queue.lender self.old self.new }
+        ensures same { tables_on self.new ≡ runs_offered (rule Q.Cost.Cost.kind (E.bound self.old.estimator) size) from view.now.«open».now 0 view.now.runs.now (tables_on self.old) }
+    {
+        for (i, run) in view.runs.iter().enumerate() {
+            if view.open[i] {
+                self.offer_run(size, from, i as RunNumber, run);
+            }
+        }
     }
 }

@@ -8,14 +8,13 @@ use crate::kinds::Size;
 use district::view::View;
 use network::{Cost, Junction, Refusal};
 
-// By the number of outlets, from one to twelve: how many sets the others have.
-const SETS: [u16; 12] = [1, 2, 4, 8, 16, 32, 64, 128, 256, 512, 1024, 2048];
-
-pub(crate) fn sets_of(outlets: u8) -> u16
+// How many sets the outlets but one have.
+#[tactic(auto, using(std::proofs::lemmas::Nat::one_shl))]
+pub(crate) fn sets_of(outlets: usize) -> u16
     requires { (0 < outlets) × (outlets ≤ 12) }
     ensures { result ≡ 2 ^ (outlets - 1) }
 {
-    SETS[outlets as usize - 1]
+    1 << (outlets - 1)
 }
 
 impl Size {
@@ -38,7 +37,7 @@ impl Size {
 pub fn room<K: Cost>(view: &View<'_, K>, places: usize, capacity: usize) -> Result<Size, Refusal>
     ensures { result ≡ room_answer (layout_of view.now) places capacity }
 {
-    let outlets = view.outlets.count;
+    let outlets = view.outlets.len();
     if outlets == 0 {
         return Err(Refusal::NoOutlet);
     }

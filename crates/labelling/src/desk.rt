@@ -1,0 +1,51 @@
+// A desk: what a search is lent, and the small steps on it.
+ghost use Rattle.std.specs.Prelude.{◌≡◌, ◌<◌, length};
+ghost use Rattle.labelling.specs.Tables.{rule, label_at};
+ghost use Rattle.labelling.specs.Offers.{written};
+ghost use Rattle.labelling.specs.Turns.{settled};
+ghost use Rattle.labelling.specs.Desks.{tables_on, with_tables};
+
+use super::kinds::{Back, Label, Way};
+use estimate::Estimator;
+use network::Cost;
+use queue::Queue;
+
+// What a search is lent: rows for labels and their ways back, a queue, and an estimator. Either of the last two may
+// be lent as a `&mut`.
+#[derive(Drop)]
+pub struct Desk<'m, Q: Queue, E> {
+    pub labels: &'m mut [Label<Q::Cost>],
+    pub ways: &'m mut [Way],
+    pub queue: Q,
+    pub estimator: E,
+}
+
+impl<'m, Q: Queue, E: Estimator<Cost = Q::Cost>> Desk<'m, Q, E> {
+    // The label at a code.
+    pub(crate) fn label_of(&self, code: usize) -> Label<Q::Cost>
+        requires { code < length self.now.labels.now }
+        ensures { (e : _) (s : _) → result ≡ label_at (rule Q.Cost.Cost.kind e s) (tables_on self.now) code }
+    {
+        self.labels[code]
+    }
+
+    // The label at a code is reached at the cost, with its way back.
+    pub(crate) fn write(&mut self, code: usize, cost: Q::Cost, back: Back)
+        requires { (code < length self.old.labels.now) × (code < length self.old.ways.now) }
+        ensures { self.new ≡ with_tables self.old (written (tables_on self.old) code cost back) }
+    {
+        self.labels[code] = Label {
+            reached: true,
+            cost,
+        };
+        self.ways[code] = Way { turn: 0, back };
+    }
+
+    // Notes the turn in which a code was settled.
+    pub(crate) fn settle(&mut self, code: usize, turn: u32)
+        requires { code < length self.old.ways.now }
+        ensures { self.new ≡ with_tables self.old (settled (tables_on self.old) code turn) }
+    {
+        self.ways[code].turn = turn;
+    }
+}
