@@ -1,11 +1,10 @@
 -- The greater of two lawful bounds is lawful. Assumes nothing.
 use Rattle.std.proofs.Common.{◌≡◌, ℕ, ◌^◌, ◌≤◌}
 use Rattle.std.proofs.lemmas.Bool.{cond_both}
-use Rattle.network.specs.Costs.{Kind, Laws, AtMost}
+use Rattle.network.specs.Costs.{Kind, Laws, AtMost, greater}
 use Rattle.network.specs.Layouts.{Layout}
 use Rattle.network.specs.Bounds.{Lawful}
 use Rattle.estimate.specs.Estimates.{Prepared}
-use Rattle.estimate.specs.Greater.{greater}
 use Rattle.network.proofs.Order.{le_trans, mono_l, greater_l, greater_r, greater_le}
 
 module _ {K : Type 0} {kind : Kind K} (laws : Laws kind) (l : Layout K) (E F : ℕ → ℕ → K) where

@@ -3,11 +3,10 @@ use Rattle.std.proofs.Common.{◌≡◌, ℕ, zero, suc, ◌+◌, ◌-◌, ◌*�
 use Rattle.std.proofs.lemmas.List.{get_or-take}
 use Rattle.std.proofs.lemmas.Bool.{ltb-true, le-ltb, cond-false}
 use Rattle.network.specs.Bounds.{Lawful}
-use Rattle.network.specs.Costs.{Kind, Laws}
+use Rattle.network.specs.Costs.{Kind, Laws, greater}
 use Rattle.network.specs.Layouts.{Layout, Priced}
 use Rattle.network.specs.declared.run.Run.{Run}
 use Rattle.estimate.specs.Estimates.{Prepared}
-use Rattle.estimate.specs.Greater.{greater}
 use Rattle.farthest.specs.Trials.{open_runs, table}
 use Rattle.farthest.specs.Distances.{Distances, in_set, farthest, far_bound, Far}
 use Rattle.farthest.specs.Memories.{in_row}

@@ -2,9 +2,8 @@
 use Rattle.std.proofs.Common.{◌≡◌, ℕ, zero, suc, ◌+◌, ◌-◌, ◌*◌, ◌<◌, ◌≤◌, Bool, true, false, cond, List, [], ◌∷◌, ◌++◌, length, get_or, drop, set, replicate, Some, None, Option, unwrap_or, sym, refl, ap, ◌∙◌, add-one, arith}
 use Rattle.std.proofs.lemmas.List.{drop_more, drop_all}
 use Rattle.std.proofs.lemmas.Bool.{cond-true, cond-false}
-use Rattle.network.specs.Costs.{Kind}
+use Rattle.network.specs.Costs.{Kind, greater}
 use Rattle.network.specs.declared.run.Run.{Run}
-use Rattle.estimate.specs.Greater.{greater}
 use Rattle.farthest.specs.Trials.{open_runs, Arc, arc, run_arcs, round_arcs, tried, applied, rounds, with_outlets}
 use Rattle.farthest.specs.Distances.{Distances, in_set, farthest}
 
