@@ -12,24 +12,13 @@ use Rattle.commands.specs.declared.command.QueueChoice.{QueueChoice}
 use Rattle.commands.specs.declared.command.QueueChoice.TheVariants.{Row, Heap}
 use Rattle.commands.specs.declared.command.EstimatorChoice.{EstimatorChoice}
 use Rattle.commands.specs.declared.command.EstimatorChoice.TheVariants.{Silent, Farthest, Larger}
-use Rattle.commands.specs.Words.{words, uncommented}
-use Rattle.commands.specs.Numbers.{number_of}
+use Rattle.commands.specs.declared.parts.Part.{Part}
+use Rattle.commands.specs.declared.parts.Part.TheVariants.{Limit as OfLimit, Labels as OfLabels, Room as OfRoom, Row as OfRow, Places as OfPlaces, Queue as OfQueue, Estimator as OfEstimator}
+use Rattle.lines.specs.Words.{words, uncommented}
+use Rattle.lines.specs.Numbers.{number_of}
+use Rattle.lines.specs.Reading.{Word, with_number, only, once, parts}
+pub use Rattle.lines.specs.Reading.{bind}
 use Rattle.commands.specs.Figures.{figure_of}
-
-abbrev pub Word : Type 0
-Word = List ℕ
-
-abbrev pub bind : {X Y : Type 0} → Option X → (X → Option Y) → Option Y
-bind None f = None
-bind (Some x) f = f x
-
--- the number that the first word says, and the other words
-abbrev pub first_number : List Word → Option (ℕ × List Word)
-first_number [] = None
-first_number (w ∷ ws) = bind (number_of w) (λ n. Some (n, ws))
-
-abbrev pub with_number : List Word → (ℕ → List Word → Option Command) → Option Command
-with_number ws f = bind (first_number ws) (λ p. f p.0 p.1)
 
 -- the cost that the first word says, and the other words
 abbrev pub first_figure : List Word → Option (Figure × List Word)
@@ -38,11 +27,6 @@ first_figure (w ∷ ws) = bind (figure_of w) (λ c. Some (c, ws))
 
 abbrev pub with_figure : List Word → (Figure → List Word → Option Command) → Option Command
 with_figure ws f = bind (first_figure ws) (λ p. f p.0 p.1)
-
--- a command after which no word may stand
-abbrev pub only : List Word → Command → Option Command
-only [] c = Some c
-only (w ∷ ws) c = None
 
 -- in what a district's costs are told: money where nothing is said
 abbrev pub kind_of : List Word → Option CostKind
@@ -85,11 +69,6 @@ dug_of ws = with_figure ws (λ cost vs. only vs (Call (Dug cost)))
 -- ---- plan [limit L] [labels P] [room Q] [row A] [places D] [queue row|heap] [estimator silent|farthest|larger], the parts in any
 -- order, each at most once
 
--- a value for what has none yet
-abbrev pub once : {X : Type 0} → Option X → Option X → Option X
-once None value = value
-once (Some x) value = None
-
 abbrev pub queue_of : Word → Option QueueChoice
 queue_of w = cond (bytes_eq w (codes "row")) (Some Row) (cond (bytes_eq w (codes "heap")) (Some Heap) None)
 
@@ -107,35 +86,36 @@ numbered p limit labels room row places = record { limit = limit; labels = label
 abbrev pub chosen : PlanWords → Option QueueChoice → Option EstimatorChoice → PlanWords
 chosen p queue estimator = record { limit = p.limit; labels = p.labels; room = p.room; row = p.row; places = p.places; queue = queue; estimator = estimator }
 
+-- what a part tells, by its name
+abbrev pub part_of : Word → Option Part
+part_of name =
+    cond (bytes_eq name (codes "limit")) (Some OfLimit)
+    (cond (bytes_eq name (codes "labels")) (Some OfLabels)
+    (cond (bytes_eq name (codes "room")) (Some OfRoom)
+    (cond (bytes_eq name (codes "row")) (Some OfRow)
+    (cond (bytes_eq name (codes "places")) (Some OfPlaces)
+    (cond (bytes_eq name (codes "queue")) (Some OfQueue)
+    (cond (bytes_eq name (codes "estimator")) (Some OfEstimator) None))))))
+
+-- a value for what has none yet
+abbrev pub valued : PlanWords → Part → Word → Option PlanWords
+valued p OfLimit value = bind (once p.limit (number_of value)) (λ x. Some (numbered p (Some x) p.labels p.room p.row p.places))
+valued p OfLabels value = bind (once p.labels (number_of value)) (λ x. Some (numbered p p.limit (Some x) p.room p.row p.places))
+valued p OfRoom value = bind (once p.room (number_of value)) (λ x. Some (numbered p p.limit p.labels (Some x) p.row p.places))
+valued p OfRow value = bind (once p.row (number_of value)) (λ x. Some (numbered p p.limit p.labels p.room (Some x) p.places))
+valued p OfPlaces value = bind (once p.places (number_of value)) (λ x. Some (numbered p p.limit p.labels p.room p.row (Some x)))
+valued p OfQueue value = bind (once p.queue (queue_of value)) (λ x. Some (chosen p (Some x) p.estimator))
+valued p OfEstimator value = bind (once p.estimator (estimator_of value)) (λ x. Some (chosen p p.queue (Some x)))
+
 -- one part more: its name and its value
 abbrev pub with_part : PlanWords → Word → Word → Option PlanWords
-with_part p name value =
-    cond (bytes_eq name (codes "limit"))
-    (bind (once p.limit (number_of value)) (λ x. Some (numbered p (Some x) p.labels p.room p.row p.places)))
-    (cond (bytes_eq name (codes "labels"))
-    (bind (once p.labels (number_of value)) (λ x. Some (numbered p p.limit (Some x) p.room p.row p.places)))
-    (cond (bytes_eq name (codes "room"))
-    (bind (once p.room (number_of value)) (λ x. Some (numbered p p.limit p.labels (Some x) p.row p.places)))
-    (cond (bytes_eq name (codes "row"))
-    (bind (once p.row (number_of value)) (λ x. Some (numbered p p.limit p.labels p.room (Some x) p.places)))
-    (cond (bytes_eq name (codes "places"))
-    (bind (once p.places (number_of value)) (λ x. Some (numbered p p.limit p.labels p.room p.row (Some x))))
-    (cond (bytes_eq name (codes "queue"))
-    (bind (once p.queue (queue_of value)) (λ x. Some (chosen p (Some x) p.estimator)))
-    (cond (bytes_eq name (codes "estimator"))
-    (bind (once p.estimator (estimator_of value)) (λ x. Some (chosen p p.queue (Some x))))
-    None))))))
-
-abbrev pub parts : List Word → PlanWords → Option PlanWords
-parts [] p = Some p
-parts (name ∷ []) p = None
-parts (name ∷ value ∷ ws) p = bind (with_part p name value) (parts ws)
+with_part p name value = bind (part_of name) (λ q. valued p q value)
 
 abbrev pub unsaid : PlanWords
 unsaid = record { limit = None; labels = None; room = None; row = None; places = None; queue = None; estimator = None }
 
 abbrev pub plan_of : List Word → Option Command
-plan_of ws = bind (parts ws unsaid) (λ p. Some (Call (Plan p)))
+plan_of ws = bind (parts with_part ws unsaid) (λ p. Some (Call (Plan p)))
 
 -- ---- a line
 

@@ -1,14 +1,9 @@
 -- Costs as they are written. Assumes nothing.
-use Rattle.std.specs.Prelude.{ℕ, cond, List, [], ◌∷◌, Some, None, Option, ◌==◌}
+use Rattle.std.specs.Prelude.{ℕ, List, Some, None, Option}
 use Rattle.commands.specs.declared.command.Figure.{Figure}
 use Rattle.commands.specs.declared.command.Figure.TheVariants.{Money, Crossings}
-use Rattle.commands.specs.Numbers.{number_of}
-use Rattle.commands.specs.Words.{before}
-
--- what stands after the first '+', where there is one
-abbrev pub past_plus : List ℕ → Option (List ℕ)
-past_plus [] = None
-past_plus (b ∷ bs) = cond (b == 43) (Some bs) (past_plus bs)
+use Rattle.lines.specs.Numbers.{number_of}
+use Rattle.lines.specs.Words.{before, past}
 
 -- an amount of money
 abbrev pub money_of : Option ℕ → Option Figure
@@ -28,4 +23,4 @@ figured w (Some rest) = crossings_of (number_of (before 43 w)) (number_of rest)
 
 -- C, or X+M
 abbrev pub figure_of : List ℕ → Option Figure
-figure_of w = figured w (past_plus w)
+figure_of w = figured w (past 43 w)

@@ -1,4 +1,2 @@
-pub mod Words
-pub mod Numbers
 pub mod Figures
 pub mod Commands

@@ -1,7 +1,7 @@
 // What a line can say.
 use std::fmt;
 
-#[derive(Clone, Copy)]
+#[derive(Clone, Copy, PartialEq, Eq, Debug)]
 pub enum Command {
     // A blank line, or a comment alone.
     Nothing,
@@ -14,14 +14,14 @@ pub enum Command {
 }
 
 // In what a district's costs are told.
-#[derive(Clone, Copy)]
+#[derive(Clone, Copy, PartialEq, Eq, Debug)]
 pub enum CostKind {
     Money,
     Crossings,
 }
 
 // A cost as it is written: money alone, as `C`, or road crossings and money, as `X+M`.
-#[derive(Clone, Copy)]
+#[derive(Clone, Copy, PartialEq, Eq, Debug)]
 pub enum Figure {
     Money(u64),
     Crossings(u64, u64),
@@ -37,7 +37,7 @@ impl fmt::Display for Figure {
 }
 
 // What is asked of the district at hand.
-#[derive(Clone, Copy)]
+#[derive(Clone, Copy, PartialEq, Eq, Debug)]
 pub enum Call {
     Lay { a: u64, b: u64, cost: Figure },
     Reprice { run: u64, cost: Figure },
@@ -50,7 +50,7 @@ pub enum Call {
 }
 
 // What a line says of a plan; none where it does not say it.
-#[derive(Clone, Copy)]
+#[derive(Clone, Copy, PartialEq, Eq, Debug, Default)]
 pub struct PlanWords {
     pub limit: Option<u64>,
     pub labels: Option<u64>,
@@ -61,13 +61,13 @@ pub struct PlanWords {
     pub estimator: Option<EstimatorChoice>,
 }
 
-#[derive(Clone, Copy)]
+#[derive(Clone, Copy, PartialEq, Eq, Debug)]
 pub enum QueueChoice {
     Row,
     Heap,
 }
 
-#[derive(Clone, Copy)]
+#[derive(Clone, Copy, PartialEq, Eq, Debug)]
 pub enum EstimatorChoice {
     Silent,
     Farthest,

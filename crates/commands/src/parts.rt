@@ -1,99 +1,80 @@
 // What a line says of a plan.
 ghost use Rattle.std.specs.Prelude.{◌≡◌};
-ghost use Rattle.commands.specs.Commands.{once, queue_of, estimator_of, with_part, plan_of};
-ghost use Rattle.commands.specs.Words.{words};
+ghost use Rattle.lines.specs.Left.{words_left};
+ghost use Rattle.commands.specs.Commands.{queue_of, estimator_of, part_of, with_part, plan_of};
 
 use crate::command::{Call, Command, EstimatorChoice, PlanWords, QueueChoice};
-use crate::digits::number;
-use crate::words::{is_word, next_word};
+use lines::{Parts, Words, fill, number, read_parts};
 
 fn read_queue(word: &[u8]) -> Option<QueueChoice>
     ensures { result ≡ queue_of word.now }
 {
-    if is_word(word, b"row") {
-        Some(QueueChoice::Row)
-    } else if is_word(word, b"heap") {
-        Some(QueueChoice::Heap)
-    } else {
-        None
+    match word {
+        b"row" => Some(QueueChoice::Row),
+        b"heap" => Some(QueueChoice::Heap),
+        _ => None,
     }
 }
 
 fn read_estimator(word: &[u8]) -> Option<EstimatorChoice>
     ensures { result ≡ estimator_of word.now }
 {
-    if is_word(word, b"silent") {
-        Some(EstimatorChoice::Silent)
-    } else if is_word(word, b"farthest") {
-        Some(EstimatorChoice::Farthest)
-    } else if is_word(word, b"larger") {
-        Some(EstimatorChoice::Larger)
-    } else {
-        None
+    match word {
+        b"silent" => Some(EstimatorChoice::Silent),
+        b"farthest" => Some(EstimatorChoice::Farthest),
+        b"larger" => Some(EstimatorChoice::Larger),
+        _ => None,
     }
 }
 
-// A value for what has none yet.
-fn fill<X: Copy>(given: Option<X>, value: Option<X>) -> Option<X>
-    ensures { result ≡ once given value }
+// What a part of a plan's line tells.
+#[derive(Clone, Copy)]
+enum Part {
+    Limit,
+    Labels,
+    Room,
+    Row,
+    Places,
+    Queue,
+    Estimator,
+}
+
+fn read_name(name: &[u8]) -> Option<Part>
+    ensures { result ≡ part_of name.now }
 {
-    match given {
-        None => value,
-        Some(_) => None,
+    match name {
+        b"limit" => Some(Part::Limit),
+        b"labels" => Some(Part::Labels),
+        b"room" => Some(Part::Room),
+        b"row" => Some(Part::Row),
+        b"places" => Some(Part::Places),
+        b"queue" => Some(Part::Queue),
+        b"estimator" => Some(Part::Estimator),
+        _ => None,
     }
 }
 
-// One part of a plan's line: its name and its value.
-fn read_part(said: PlanWords, name: &[u8], value: &[u8]) -> Option<PlanWords>
-    ensures { result ≡ with_part said name.now value.now }
-{
-    let mut said = said;
-    if is_word(name, b"limit") {
-        said.limit = Some(fill(said.limit, number(value))?);
-        Some(said)
-    } else if is_word(name, b"labels") {
-        said.labels = Some(fill(said.labels, number(value))?);
-        Some(said)
-    } else if is_word(name, b"room") {
-        said.room = Some(fill(said.room, number(value))?);
-        Some(said)
-    } else if is_word(name, b"row") {
-        said.row = Some(fill(said.row, number(value))?);
-        Some(said)
-    } else if is_word(name, b"places") {
-        said.places = Some(fill(said.places, number(value))?);
-        Some(said)
-    } else if is_word(name, b"queue") {
-        said.queue = Some(fill(said.queue, read_queue(value))?);
-        Some(said)
-    } else if is_word(name, b"estimator") {
-        said.estimator = Some(fill(said.estimator, read_estimator(value))?);
-        Some(said)
-    } else {
-        None
+impl Parts for PlanWords {
+    ghost with_part = { with_part };
+
+    fn with(mut self, name: &[u8], value: &[u8]) -> Option<PlanWords> {
+        match read_name(name)? {
+            Part::Limit => fill(&mut self.limit, number(value))?,
+            Part::Labels => fill(&mut self.labels, number(value))?,
+            Part::Room => fill(&mut self.room, number(value))?,
+            Part::Row => fill(&mut self.row, number(value))?,
+            Part::Places => fill(&mut self.places, number(value))?,
+            Part::Queue => fill(&mut self.queue, read_queue(value))?,
+            Part::Estimator => fill(&mut self.estimator, read_estimator(value))?,
+        }
+        Some(self)
     }
 }
 
 // The parts of a plan's line, in any order.
-pub(crate) fn read_plan(line: &[u8]) -> Option<Command>
-    ensures { result ≡ plan_of (words line.now) }
+pub(crate) fn read_plan(line: Words<'_>) -> Option<Command>
+    ensures { result ≡ plan_of (words_left line.entry) }
 {
-    let mut said = PlanWords {
-        limit: None,
-        labels: None,
-        room: None,
-        row: None,
-        places: None,
-        queue: None,
-        estimator: None,
-    };
-    let mut rest = line;
-    while let Some((name, after)) = next_word(rest) {
-        let Some((value, left)) = next_word(after) else {
-            return None;
-        };
-        said = read_part(said, name, value)?;
-        rest = left;
-    }
+    let said = read_parts(PlanWords::default(), line)?;
     Some(Command::Call(Call::Plan(said)))
 }

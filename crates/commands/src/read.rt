@@ -1,65 +1,38 @@
 // A line of the text, as a command.
-ghost use Rattle.std.specs.Prelude.{◌≡◌, ◌<◌, Some, None, MatchOption};
-ghost use Rattle.commands.specs.Commands.{only, first_number, first_figure, kind_of, district_of, lay_of, reprice_of, close_of, open_of, mark_of, unmark_of, dug_of, command_of, understood};
-ghost use Rattle.commands.specs.Words.{words};
+ghost use Rattle.std.specs.Prelude.{◌≡◌, Some, None, MatchOption};
+ghost use Rattle.lines.specs.Left.{words_left};
+ghost use Rattle.commands.specs.Commands.{first_figure, kind_of, district_of, lay_of, reprice_of, close_of, open_of, mark_of, unmark_of, dug_of, command_of, understood};
 
 use crate::command::{Call, Command, CostKind, Figure};
-use crate::digits::number;
 use crate::figures::figure;
 use crate::parts::read_plan;
-use crate::words::{is_word, next_word, without_comment};
+use lines::{Words, without_comment};
 
-// The number at the front of a line, and what stands after it.
-fn next_number(line: &[u8]) -> Option<(u64, &[u8])>
+// The cost that the next word says.
+fn next_figure(line: &mut Words<'_>) -> Option<Figure>
     ensures { MatchOption result
-        (first_number (words line.now) ≡ None)
-        (λ p. first_number (words line.now) ≡ Some (p.0, words p.1.now)) }
+        (first_figure (words_left line.old) ≡ None)
+        (λ cost. first_figure (words_left line.old) ≡ Some (cost, words_left line.new)) }
 {
-    let (word, rest) = next_word(line)?;
-    let n = number(word)?;
-    Some((n, rest))
+    figure(line.next()?)
 }
 
-// The cost at the front of a line, and what stands after it.
-fn next_figure(line: &[u8]) -> Option<(Figure, &[u8])>
-    ensures { MatchOption result
-        (first_figure (words line.now) ≡ None)
-        (λ p. first_figure (words line.now) ≡ Some (p.0, words p.1.now)) }
+// In what costs are told, where nothing else is said.
+fn read_kind(mut line: Words<'_>) -> Option<CostKind>
+    ensures { result ≡ kind_of (words_left line.entry) }
 {
-    let (word, rest) = next_word(line)?;
-    let cost = figure(word)?;
-    Some((cost, rest))
-}
-
-// The command, where no word is left.
-fn whole(line: &[u8], command: Command) -> Option<Command>
-    ensures { result ≡ only (words line.now) command }
-{
-    match next_word(line) {
-        None => Some(command),
+    match line.next() {
+        None => Some(CostKind::Money),
+        Some(b"crossings") => line.whole(CostKind::Crossings),
         Some(_) => None,
     }
 }
 
-// In what costs are told, where nothing else is said.
-fn read_kind(line: &[u8]) -> Option<CostKind>
-    ensures { result ≡ kind_of (words line.now) }
+fn read_district(mut line: Words<'_>) -> Option<Command>
+    ensures { result ≡ district_of (words_left line.entry) }
 {
-    let Some((word, rest)) = next_word(line) else {
-        return Some(CostKind::Money);
-    };
-    if next_word(rest).is_none() && is_word(word, b"crossings") {
-        Some(CostKind::Crossings)
-    } else {
-        None
-    }
-}
-
-fn read_district(line: &[u8]) -> Option<Command>
-    ensures { result ≡ district_of (words line.now) }
-{
-    let (junctions, line) = next_number(line)?;
-    let (capacity, line) = next_number(line)?;
+    let junctions = line.number()?;
+    let capacity = line.number()?;
     let kind = read_kind(line)?;
     Some(Command::District {
         junctions,
@@ -68,82 +41,73 @@ fn read_district(line: &[u8]) -> Option<Command>
     })
 }
 
-fn read_lay(line: &[u8]) -> Option<Command>
-    ensures { result ≡ lay_of (words line.now) }
+fn read_lay(mut line: Words<'_>) -> Option<Command>
+    ensures { result ≡ lay_of (words_left line.entry) }
 {
-    let (a, line) = next_number(line)?;
-    let (b, line) = next_number(line)?;
-    let (cost, line) = next_figure(line)?;
-    whole(line, Command::Call(Call::Lay { a, b, cost }))
+    let a = line.number()?;
+    let b = line.number()?;
+    let cost = next_figure(&mut line)?;
+    line.whole(Command::Call(Call::Lay { a, b, cost }))
 }
 
-fn read_reprice(line: &[u8]) -> Option<Command>
-    ensures { result ≡ reprice_of (words line.now) }
+fn read_reprice(mut line: Words<'_>) -> Option<Command>
+    ensures { result ≡ reprice_of (words_left line.entry) }
 {
-    let (run, line) = next_number(line)?;
-    let (cost, line) = next_figure(line)?;
-    whole(line, Command::Call(Call::Reprice { run, cost }))
+    let run = line.number()?;
+    let cost = next_figure(&mut line)?;
+    line.whole(Command::Call(Call::Reprice { run, cost }))
 }
 
-fn read_close(line: &[u8]) -> Option<Command>
-    ensures { result ≡ close_of (words line.now) }
+fn read_close(mut line: Words<'_>) -> Option<Command>
+    ensures { result ≡ close_of (words_left line.entry) }
 {
-    let (run, line) = next_number(line)?;
-    whole(line, Command::Call(Call::Close { run }))
+    let run = line.number()?;
+    line.whole(Command::Call(Call::Close { run }))
 }
 
-fn read_open(line: &[u8]) -> Option<Command>
-    ensures { result ≡ open_of (words line.now) }
+fn read_open(mut line: Words<'_>) -> Option<Command>
+    ensures { result ≡ open_of (words_left line.entry) }
 {
-    let (run, line) = next_number(line)?;
-    whole(line, Command::Call(Call::Open { run }))
+    let run = line.number()?;
+    line.whole(Command::Call(Call::Open { run }))
 }
 
-fn read_mark(line: &[u8]) -> Option<Command>
-    ensures { result ≡ mark_of (words line.now) }
+fn read_mark(mut line: Words<'_>) -> Option<Command>
+    ensures { result ≡ mark_of (words_left line.entry) }
 {
-    let (junction, line) = next_number(line)?;
-    whole(line, Command::Call(Call::Mark { junction }))
+    let junction = line.number()?;
+    line.whole(Command::Call(Call::Mark { junction }))
 }
 
-fn read_unmark(line: &[u8]) -> Option<Command>
-    ensures { result ≡ unmark_of (words line.now) }
+fn read_unmark(mut line: Words<'_>) -> Option<Command>
+    ensures { result ≡ unmark_of (words_left line.entry) }
 {
-    let (junction, line) = next_number(line)?;
-    whole(line, Command::Call(Call::Unmark { junction }))
+    let junction = line.number()?;
+    line.whole(Command::Call(Call::Unmark { junction }))
 }
 
-fn read_dug(line: &[u8]) -> Option<Command>
-    ensures { result ≡ dug_of (words line.now) }
+fn read_dug(mut line: Words<'_>) -> Option<Command>
+    ensures { result ≡ dug_of (words_left line.entry) }
 {
-    let (cost, line) = next_figure(line)?;
-    whole(line, Command::Call(Call::Dug { cost }))
+    let cost = next_figure(&mut line)?;
+    line.whole(Command::Call(Call::Dug { cost }))
 }
 
 // A command by its first word and what stands after it.
-fn read_command(verb: &[u8], line: &[u8]) -> Option<Command>
-    ensures { result ≡ command_of verb.now (words line.now) }
+fn read_command(verb: &[u8], line: Words<'_>) -> Option<Command>
+    ensures { result ≡ command_of verb.now (words_left line.entry) }
 {
-    if is_word(verb, b"district") {
-        read_district(line)
-    } else if is_word(verb, b"lay") {
-        read_lay(line)
-    } else if is_word(verb, b"reprice") {
-        read_reprice(line)
-    } else if is_word(verb, b"close") {
-        read_close(line)
-    } else if is_word(verb, b"open") {
-        read_open(line)
-    } else if is_word(verb, b"mark") {
-        read_mark(line)
-    } else if is_word(verb, b"unmark") {
-        read_unmark(line)
-    } else if is_word(verb, b"plan") {
-        read_plan(line)
-    } else if is_word(verb, b"dug") {
-        read_dug(line)
-    } else {
-        None
+    match verb {
+        b"district" => read_district(line),
+        b"lay" => read_lay(line),
+        b"reprice" => read_reprice(line),
+        b"close" => read_close(line),
+        b"open" => read_open(line),
+        b"mark" => read_mark(line),
+        b"unmark" => read_unmark(line),
+        b"plan" => read_plan(line),
+        b"dug" => read_dug(line),
+        _ => None,
     }
 }
 
@@ -151,8 +115,9 @@ fn read_command(verb: &[u8], line: &[u8]) -> Option<Command>
 pub fn read_line(line: &[u8]) -> Option<Command>
     ensures { result ≡ understood line.now }
 {
-    match next_word(without_comment(line)) {
+    let mut words = Words::of(without_comment(line));
+    match words.next() {
         None => Some(Command::Nothing),
-        Some((verb, rest)) => read_command(verb, rest),
+        Some(verb) => read_command(verb, words),
     }
 }

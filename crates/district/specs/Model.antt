@@ -1,14 +1,14 @@
 -- The abstract district: what the making and the calls have written, and what each call answers. Assumes nothing.
-use Rattle.std.specs.Prelude.{◌≡◌, ℕ, zero, suc, min, Bool, true, false, cond, List, [], ◌∷◌, ◌++◌, length, take, Ok, Err, vec_items, vec_len, Result, ◌==◌, nat_le, nat_lt, slice_index_or, slice_set}
+use Rattle.std.specs.Prelude.{◌≡◌, ℕ, zero, suc, min, Bool, true, false, cond, List, [], ◌∷◌, ◌++◌, length, take, Ok, Err, vec_items, vec_len, Result, ◌==◌, nat_le, nat_lt, ◌<◌, ◌≤◌, slice_index, slice_index_or, slice_set}
 use Rattle.network.specs.Costs.{Kind}
 use Rattle.network.specs.Layouts.{Layout}
+use Rattle.network.specs.declared.cost.Cost.{Ghosts}
 use Rattle.network.specs.declared.run.Run.{Run}
 use Rattle.network.specs.declared.refusal.Refusal.{Refusal}
 use Rattle.network.specs.declared.refusal.Refusal.TheVariants.{JunctionCount, RunCapacity, NotAJunction, SameEnds, NoCost, TooBulky, RunsFull, NoRun, RunState, AlreadyMarked, OutletsFull, NotMarked}
 use Rattle.district.specs.declared.district.District.{District}
 use Rattle.district.specs.declared.district.Memory.{Memory}
 use Rattle.district.specs.declared.district.Unmade.{Unmade}
-use Rattle.district.specs.declared.outlets.Outlets.{Outlets}
 use Rattle.district.specs.declared.view.View.{View}
 
 -- N, the run capacity, the runs in the order they were laid, which of them are open, and the outlets by rising number
@@ -19,23 +19,19 @@ pub record Model (K : Type 0) : Type 0 where
   pub «open» : List Bool
   pub outlets : List ℕ
 
--- the outlets of a row
-abbrev pub outlet_list : Outlets → List ℕ
-outlet_list o = take o.count o.places
-
 -- the abstract district that a district stands for
-abbrev pub model_of : {K : Type 0} → District K → Model K
+abbrev pub model_of : {K : Type 0} {bound : Ghosts K} → District K bound → Model K
 model_of d = record {
   junctions = d.junctions;
   capacity = min (vec_len d.runs) (vec_len d.«open»);
   runs = take d.laid (vec_items d.runs);
   «open» = take d.laid (vec_items d.«open»);
-  outlets = outlet_list d.outlets;
+  outlets = d.outlets.items;
 }
 
 -- what a view shows
 abbrev pub layout_of : {K : Type 0} → View K → Layout K
-layout_of v = record { junctions = v.junctions; runs = v.runs.now; «open» = v.«open».now; outlets = outlet_list v.outlets }
+layout_of v = record { junctions = v.junctions; runs = v.runs.now; «open» = v.«open».now; outlets = v.outlets.now }
 
 -- what a search may read of the abstract district
 abbrev pub seen : {K : Type 0} → Model K → Layout K
@@ -59,12 +55,12 @@ abbrev pub room_of : {K : Type 0} → Memory K → ℕ
 room_of m = min (vec_len m.runs) (vec_len m.«open»)
 
 -- what a making returns: the fresh district, or the refusal with the memory untouched
-abbrev pub Made : {K : Type 0} → ℕ → Memory K → Result (District K) (Unmade K) → Type 0
+abbrev pub Made : {K : Type 0} {bound : Ghosts K} → ℕ → Memory K → Result (District K bound) (Unmade K) → Type 0
 Made {K} n memory (Ok d) = make_answer K n (room_of memory) ≡ Ok (model_of d)
 Made {K} n memory (Err u) = (make_answer K n (room_of memory) ≡ Err u.why) × (u.memory ≡ memory)
 
 -- the rows of a district, given back
-abbrev pub Returned : {K : Type 0} → District K → Memory K → Type 0
+abbrev pub Returned : {K : Type 0} {bound : Ghosts K} → District K bound → Memory K → Type 0
 Returned d m = (m.runs ≡ d.runs) × (m.«open» ≡ d.«open»)
 
 -- ---- lay
@@ -84,6 +80,10 @@ lay_answer kind m a b cost =
     (cond (nat_lt 1000000 (kind.bulk cost)) (Err TooBulky)
     (cond (nat_le m.capacity (length m.runs)) (Err RunsFull) (Ok (length m.runs))))
     (Err NoCost))))
+
+-- is the cost above zero, and its bulk at most 1,000,000?
+abbrev pub price_answer : {K : Type 0} → Kind K → K → Result (Unit {0}) Refusal
+price_answer kind cost = cond (kind.below kind.zero cost) (cond (nat_lt 1000000 (kind.bulk cost)) (Err TooBulky) (Ok tt)) (Err NoCost)
 
 -- one more run, which is open
 abbrev pub with_run : {K : Type 0} → Model K → ℕ → ℕ → K → Model K
@@ -109,6 +109,17 @@ has j (x ∷ xs) = cond (x == j) true (has j xs)
 abbrev pub ins : ℕ → List ℕ → List ℕ
 ins j [] = j ∷ []
 ins j (x ∷ xs) = cond (nat_lt x j) (x ∷ ins j xs) (j ∷ x ∷ xs)
+
+-- j stands at p
+pub record Stands (os : List ℕ) (j p : ℕ) : Type 0 where
+  pub fit : p < length os
+  pub is : slice_index os p ≡ j
+
+-- p is where j would go in, among numbers that rise and are not j
+pub record GoesIn (os : List ℕ) (j p : ℕ) : Type 0 where
+  pub fit : p ≤ length os
+  pub below : (k : ℕ) → k < p → slice_index os k < j
+  pub above : (k : ℕ) → p ≤ k → k < length os → j < slice_index os k
 
 -- is it a junction? is it unmarked? are fewer than twelve marked?
 abbrev pub mark_answer : {K : Type 0} → Model K → ℕ → Result (Unit {0}) Refusal

@@ -2,27 +2,38 @@
 pub mod calls;
 pub mod changes;
 
-ghost use Rattle.std.specs.Prelude.{ℕ, ◌<◌, ◌≤◌, min, vec_len, slice_index, slice_index_or};
+ghost use Rattle.std.specs.Prelude.{ℕ, ◌<◌, ◌≤◌, min, length, take, vec_len};
+ghost use Rattle.std.specs.List.Sorted.{IsStrictlyIncreasing};
+ghost use Rattle.network.specs.Layouts.{Priced};
 ghost use Rattle.network.specs.declared.run.Run.{Run};
+ghost use Rattle.district.specs.Bounds.{EndsBelow, AllBelow};
 
-use crate::outlets::Outlets;
-use network::{Junction, Refusal, Run, RunNumber};
+use arrayvec::ArrayVec;
+use network::{Cost, Junction, Refusal, Run, RunNumber};
+
+// The most outlets that a district may have.
+pub const MOST_OUTLETS: usize = 12;
 
 #[derive(Drop)]
-pub struct District<K> {
+pub struct District<K: Cost> {
     junctions: Junction,
     laid: RunNumber,
+    // Two rows and not one: a search reads the marks beside the runs, and a run is closed by its mark alone.
     // The run records: the first `laid` are the runs.
     runs: Vec<Run<K>>,
     // The open marks: run i is open if the i-th says so.
     open: Vec<bool>,
-    outlets: Outlets,
+    // The marked junctions, by rising number.
+    outlets: ArrayVec<Junction, MOST_OUTLETS>,
     ghost many: { junctions ≤ 1024 },
     ghost few: { min (vec_len runs) (vec_len «open») ≤ 4096 },
     ghost room: { laid ≤ vec_len runs },
     ghost marks: { laid ≤ vec_len «open» },
-    ghost ends: { (k : ℕ) (d : Run K) → k < laid → ((slice_index_or runs.items k d).a < junctions) × ((slice_index_or runs.items k d).b < junctions) },
-    ghost inside: { (k : ℕ) → k < outlets.count → slice_index outlets.places k < junctions },
+    ghost ends: { EndsBelow junctions (take laid runs.items) },
+    ghost priced: { Priced K.Cost.kind (take laid runs.items) },
+    ghost twelve: { length outlets.items ≤ 12 },
+    ghost rising: { IsStrictlyIncreasing outlets.items },
+    ghost inside: { AllBelow junctions outlets.items },
 }
 
 // The two rows that a district is made of.

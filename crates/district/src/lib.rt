@@ -2,5 +2,4 @@
 #![tactic(auto)]
 
 pub mod district;
-pub mod outlets;
 pub mod view;

@@ -29,7 +29,7 @@ impl<A: Estimator, B: Estimator<Cost = A::Cost>> Estimator for Larger<A, B> {
 
     // Both are asked before either is prepared, so that a refusal leaves both as they were.
     fn prepare(&mut self, view: &View<'_, A::Cost>) -> Result<(), Refusal> {
-        if !(*self).fits(view.junctions as usize, view.outlets.count as usize) {
+        if !(*self).fits(view.junctions as usize, view.outlets.len()) {
             return Err(Refusal::EstimatorFit);
         }
         self.first.prepare(view)?;

@@ -10,5 +10,5 @@ pub struct Farthest<'m, K> {
     distances: &'m mut [Option<K>],
     // How many there are in the district that it was last prepared for.
     junctions: Junction,
-    outlets: u8,
+    outlets: usize,
 }

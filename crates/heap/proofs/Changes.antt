@@ -5,7 +5,8 @@ use Rattle.std.proofs.lemmas.List.{length-set, get_or-set_same, get_or-set_other
 use Rattle.std.proofs.lemmas.Option.{slice_get-get_or, slice_get_past}
 use Rattle.std.proofs.lemmas.Bool.{cases_eq, cases_lt, cases_Bool, both_ways, cond-true, cond-false}
 use Rattle.network.specs.Costs.{Kind, Laws}
-use Rattle.heap.specs.Heaps.{stands, waits_at, Found, before, parent, Ordered}
+use Rattle.heap.specs.Heaps.{waits_at, before, parent, Ordered}
+use Rattle.heap.specs.Places.{stands, Found}
 use Rattle.heap.specs.Sifts.{OrderedButAt, OrderedButUnder, Over}
 use Rattle.heap.proofs.Full.{misses}
 use Rattle.heap.proofs.Order.{no, from_no, before_cotrans}

@@ -1,11 +1,10 @@
 -- What a step of a heap left in its rows, carried over to the heap. Assumes nothing.
-use Rattle.std.proofs.Common.{◌≡◌, ℕ, ◌<◌, ◌≤◌, Bool, List, map, length, get_or, set, replicate, None, sym, refl, ap, ◌∙◌, subst, arith}
+use Rattle.std.proofs.Common.{◌≡◌, ℕ, ◌<◌, ◌≤◌, Bool, List, map, length, get_or, replicate, None, sym, refl, ap, ◌∙◌, subst, arith}
 use Rattle.std.specs.List.{range_with_len, swap}
-use Rattle.std.proofs.lemmas.List.Edits.{swap_is}
 use Rattle.heap.specs.declared.Heap.{Heap}
-use Rattle.heap.specs.Heaps.{waits_at, heap_waits, Found, Sound, before}
+use Rattle.heap.specs.Heaps.{waits_at, heap_waits, before}
 use Rattle.heap.specs.Sifts.{Made, Emptied, Exchanged, Kept, OrderedButAt, OrderedButUnder, Over, ButAt, ButUnder}
-use Rattle.heap.proofs.Stands.{length_waits, same_made, nothing_made, none_at, swap_found, swap_at}
+use Rattle.heap.proofs.Stands.{length_waits, same_made, nothing_made, none_at, swap_at}
 
 module _ {K : Type 0} {h g : Heap K} {len : ℕ} {keys : List K} {codes places : List ℕ} (m : Made h g len keys codes places) where
   -- what holds of what is said of the rows holds of the rows
@@ -16,12 +15,6 @@ module _ {K : Type 0} {h g : Heap K} {len : ℕ} {keys : List K} {codes places :
       (subst (λ ks. P h.cap len ks g.codes.now g.places.now) (sym m.keyed)
       (subst (λ cs. P h.cap len keys cs g.places.now) (sym m.coded)
       (subst (λ ps. P h.cap len keys codes ps) (sym m.placed) p))))
-
-  pub made_sound : len ≤ h.cap → Found len h.cap codes places → Sound g
-  made_sound le found = record {
-    within = made_as (λ cap n ks cs ps. n ≤ cap) le;
-    found = made_as (λ cap n ks cs ps. Found n cap cs ps) found;
-  }
 
   pub made_waits : heap_waits g ≡ map (waits_at len keys codes places) (range_with_len 0 h.cap)
   unfolding heap_waits
@@ -43,21 +36,9 @@ emptied_waits h g m =
     ap (λ n. replicate n None) (sym (length_waits h))
 
 -- two codes have changed places
-module _ {K : Type 0} (h g : Heap K) (i j : ℕ) (s : Sound h) (li : i < h.len) (lj : j < h.len) (m : Exchanged h g i j) where
+module _ {K : Type 0} (h g : Heap K) (i j : ℕ) (li : i < h.len) (lj : j < h.len) (m : Exchanged h g i j) where
   in_codes : h.len ≤ length h.codes.now
-  in_codes = let w = s.within in let r : h.cap ≤ length h.codes.now = h.room.2 in omega arith
-
-  is_exchanged : set (set h.codes.now i (get_or h.codes.now j 0)) j (get_or h.codes.now i 0) ≡ swap h.codes.now i j
-  is_exchanged = let r = in_codes in swap_is h.codes.now i j 0 (omega arith) (omega arith)
-
-  pub swap_codes : g.codes.now ≡ swap h.codes.now i j
-  swap_codes = m.coded ∙ is_exchanged
-
-  pub swap_sound : Sound g
-  swap_sound =
-      made_sound m s.within
-      (subst (λ cs. Found h.len h.cap cs (set (set h.places.now (get_or h.codes.now j 0) i) (get_or h.codes.now i 0) j)) (sym is_exchanged)
-      (swap_found h.codes.now h.places.now h.len h.cap i j li lj in_codes h.room.3 s.found))
+  in_codes = let w = h.within in let r : h.cap ≤ length h.codes.now = h.room.2 in omega arith
 
   pub swap_kept : Kept h g
   unfolding heap_waits
@@ -65,8 +46,8 @@ module _ {K : Type 0} (h g : Heap K) (i j : ℕ) (s : Sound h) (li : i < h.len) 
       let keys = h.keys.now in
       let codes = h.codes.now in
       let places = h.places.now in
-      let codes' = set (set codes i (get_or codes j 0)) j (get_or codes i 0) in
-      let places' = set (set places (get_or codes j 0) i) (get_or codes i 0) j in
+      let codes' = swap codes i j in
+      let places' = swap places (get_or codes i 0) (get_or codes j 0) in
       record {
         caps = m.caps;
         lens = m.lens;
@@ -74,5 +55,5 @@ module _ {K : Type 0} (h g : Heap K) (i j : ℕ) (s : Sound h) (li : i < h.len) 
         lends = m.lends;
         waits = made_waits m ∙
             same_made (waits_at h.len keys codes places) (waits_at h.len keys codes' places') h.cap h.cap None refl
-            (λ x lt. ap (λ cs. waits_at h.len keys cs places' x) is_exchanged ∙ swap_at codes places h.len h.cap i j li lj in_codes h.room.3 s.found keys x);
+            (λ x lt. swap_at codes places h.len h.cap i j li lj in_codes h.room.3 h.found keys x);
       }

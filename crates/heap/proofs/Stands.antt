@@ -7,7 +7,8 @@ use Rattle.std.proofs.lemmas.List.{length-set, get_or-set_same, get_or-set_other
 use Rattle.std.proofs.lemmas.Bool.{cases_eq, and_parts, and_from, and_left, ltb-true, eqb-true, lt-ltb, le-ltb, eq-eqb}
 use Rattle.std.proofs.lemmas.Bool.Decides.{same_from_decides}
 use Rattle.heap.specs.declared.Heap.{Heap}
-use Rattle.heap.specs.Heaps.{stands, waits_at, heap_waits, Found, Good}
+use Rattle.heap.specs.Heaps.{waits_at, heap_waits, Good}
+use Rattle.heap.specs.Places.{stands, Found}
 use Rattle.heap.specs.Sifts.{Kept}
 
 -- c is one of the first n
@@ -74,7 +75,6 @@ at_waits h c lt = get_or-map-range_with_len (waits_at h.len h.keys.now h.codes.n
 -- a heap where nothing waits is in good order
 pub empty_good : {K : Type 0} (below : K → K → Bool) (h : Heap K) → h.len ≡ 0 → Good below h
 empty_good below h e = record {
-  sound = record { within = omega arith; found = λ k lt. absurd (omega arith) };
   ordered = λ d k p lt. absurd (omega arith);
 }
 
@@ -112,32 +112,36 @@ module _ (codes places : List ℕ) (len cap i j : ℕ) (li : i < len) (lj : j < 
         ]
       ]
 
-  at_i : get_or (set (set places (get_or codes j 0) i) (get_or codes i 0) j) (get_or codes i 0) 0 ≡ j
-  at_i =
-      let lt : get_or codes i 0 < length (set places (get_or codes j 0) i) = omega (arith, length-set places (get_or codes j 0) i, (found i li).0) in
-      get_or-set_same (set places (get_or codes j 0) i) (get_or codes i 0) j 0 lt
+  -- the codes at two places are two
+  one_code : (k m : ℕ) → k < len → m < len → k ≢ m → get_or codes k 0 ≢ get_or codes m 0
+  one_code k m lk lm ne s =
+      let z : get_or places (get_or codes k 0) 0 ≡ get_or places (get_or codes m 0) 0 = ap (λ c. get_or places c 0) s in
+      ne (omega (arith, (found k lk).1, (found m lm).1))
 
-  pub swap_found : Found len cap (swap codes i j) (set (set places (get_or codes j 0) i) (get_or codes i 0) j)
+  pub swap_found : Found len cap (swap codes i j) (swap places (get_or codes i 0) (get_or codes j 0))
   swap_found k lt =
-      let P = set (set places (get_or codes j 0) i) (get_or codes i 0) j in
-      let f : ℕ → ℕ = λ k. get_or codes k 0 in
-      elim (cases_eq k j) [
+      let a = get_or codes i 0 in
+      let b = get_or codes j 0 in
+      let P = swap places a b in
+      let S : Swapped (λ c. get_or places c 0) (λ c. get_or P c 0) a b =
+      swapped_from_swap places P a b 0 (omega (arith, (found i li).0)) (omega (arith, (found j lj).0)) refl in
+      elim (cases_eq k i) [
         | inl e ↦
-            let is : get_or (swap codes i j) k 0 ≡ get_or codes i 0 = ap (λ k. get_or (swap codes i j) k 0) e ∙ swaps.1 in
-            (rw is (found i li).0, ap (λ c. get_or P c 0) is ∙ at_i ∙ sym e)
-        | inr q ↦ elim (cases_eq k i) [
+            let is : get_or (swap codes i j) k 0 ≡ b = ap (λ k. get_or (swap codes i j) k 0) e ∙ swaps.0 in
+            (rw is (found j lj).0, ap (λ c. get_or P c 0) is ∙ S.1 ∙ (found i li).1 ∙ sym e)
+        | inr p ↦ elim (cases_eq k j) [
           | inl e ↦
-              let is : get_or (swap codes i j) k 0 ≡ get_or codes j 0 = ap (λ k. get_or (swap codes i j) k 0) e ∙ swaps.0 in
-              let apart : get_or codes j 0 ≢ get_or codes i 0 = λ s. let z : get_or places (get_or codes j 0) 0 ≡ get_or places (get_or codes i 0) 0 = ap (λ c. get_or places c 0) s in absurd (omega (arith, (found i li).1, (found j lj).1)) in
-              let room : get_or codes j 0 < length places = omega (arith, (found j lj).0) in
-              (rw is (found j lj).0, ap (λ c. get_or P c 0) is ∙ get_or-set_other (set places (get_or codes j 0) i) (get_or codes i 0) (get_or codes j 0) j 0 apart ∙ get_or-set_same places (get_or codes j 0) i 0 room ∙ sym e)
-          | inr p ↦
+              let is : get_or (swap codes i j) k 0 ≡ a = ap (λ k. get_or (swap codes i j) k 0) e ∙ swaps.1 in
+              (rw is (found i li).0, ap (λ c. get_or P c 0) is ∙ S.0 ∙ (found j lj).1 ∙ sym e)
+          | inr q ↦
               let is : get_or (swap codes i j) k 0 ≡ get_or codes k 0 = swaps.2 k p q in
-              let ni : get_or codes k 0 ≢ get_or codes i 0 = λ s. let z : get_or places (get_or codes k 0) 0 ≡ get_or places (get_or codes i 0) 0 = ap (λ c. get_or places c 0) s in absurd (omega (arith, (found i li).1, (found k lt).1)) in
-              let nj : get_or codes k 0 ≢ get_or codes j 0 = λ s. let z : get_or places (get_or codes k 0) 0 ≡ get_or places (get_or codes j 0) 0 = ap (λ c. get_or places c 0) s in absurd (omega (arith, (found j lj).1, (found k lt).1)) in
-              (rw is (found k lt).0, ap (λ c. get_or P c 0) is ∙ get_or-set_other (set places (get_or codes j 0) i) (get_or codes i 0) (get_or codes k 0) j 0 ni ∙ get_or-set_other places (get_or codes j 0) (get_or codes k 0) i 0 nj ∙ (found k lt).1)
+              (rw is (found k lt).0, ap (λ c. get_or P c 0) is ∙ S.2 (get_or codes k 0) (one_code k i lt li p) (one_code k j lt lj q) ∙ (found k lt).1)
         ]
       ]
 
-  pub swap_at : {K : Type 0} (keys : List K) (c : ℕ) → waits_at len keys (swap codes i j) (set (set places (get_or codes j 0) i) (get_or codes i 0) j) c ≡ waits_at len keys codes places c
-  swap_at keys c = same_at keys keys len len cap codes (swap codes i j) places (set (set places (get_or codes j 0) i) (get_or codes i 0) j) c found swap_found refl (among_swap c) (swap_among c)
+  -- the same of rows that came out so
+  pub exchanged_found : (codes' places' : List ℕ) → codes' ≡ swap codes i j → places' ≡ swap places (get_or codes i 0) (get_or codes j 0) → Found len cap codes' places'
+  exchanged_found codes' places' e f = rw (e, f) swap_found
+
+  pub swap_at : {K : Type 0} (keys : List K) (c : ℕ) → waits_at len keys (swap codes i j) (swap places (get_or codes i 0) (get_or codes j 0)) c ≡ waits_at len keys codes places c
+  swap_at keys c = same_at keys keys len len cap codes (swap codes i j) places (swap places (get_or codes i 0) (get_or codes j 0)) c found swap_found refl (among_swap c) (swap_among c)

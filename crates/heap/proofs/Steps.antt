@@ -5,7 +5,7 @@ use Rattle.std.proofs.lemmas.List.Edits.{Swapped, swapped_from_swap}
 use Rattle.std.proofs.lemmas.Bool.{cases_eq, cases_lt}
 use Rattle.network.specs.Costs.{Kind, Laws}
 use Rattle.heap.specs.declared.Heap.{Heap}
-use Rattle.heap.specs.Heaps.{before, parent, Sound, Good}
+use Rattle.heap.specs.Heaps.{before, parent, Good}
 use Rattle.heap.specs.Sifts.{Tells, Kept, OrderedButAt, OrderedButUnder, Over, ButAt, ButUnder, Chosen, LeastChild}
 use Rattle.heap.proofs.Order.{before_irrefl, before_asym, before_trans, before_cotrans}
 use Rattle.heap.proofs.Tree.{risen, sunk, but_up, over_up, but_down, over_down}
@@ -14,9 +14,9 @@ use Rattle.heap.proofs.Tree.{risen, sunk, but_up, over_up, but_down, over_down}
 abbrev pub at_place : {K : Type 0} → Heap K → ℕ → ℕ
 at_place h k = get_or h.codes.now k 0
 
-swapped : {K : Type 0} (h g : Heap K) (i j : ℕ) → Sound h → i < h.len → j < h.len → g.codes.now ≡ swap h.codes.now i j → Swapped (at_place h) (at_place g) i j
-swapped h g i j s li lj e =
-    let w = s.within in
+swapped : {K : Type 0} (h g : Heap K) (i j : ℕ) → i < h.len → j < h.len → g.codes.now ≡ swap h.codes.now i j → Swapped (at_place h) (at_place g) i j
+swapped h g i j li lj e =
+    let w = h.within in
     let r : h.cap ≤ length h.codes.now = h.room.2 in
     swapped_from_swap h.codes.now g.codes.now i j 0 (omega arith) (omega arith) e
 
@@ -29,10 +29,10 @@ module _ {K : Type 0} {kind : Kind K} (laws : Laws kind) where
   abbrev below : K → K → Bool
   below = kind.below
 
-  pub rise_step : (h g : Heap K) (at : ℕ) → 0 < at → at < h.len → Sound h → g.codes.now ≡ swap h.codes.now at (parent at) → Kept h g → Tells below h.keys.now (at_place h at) (at_place h (parent at)) true → ButAt below h at → ButAt below g (parent at)
-  rise_step h g at pos inside s e kept less but d =
+  pub rise_step : (h g : Heap K) (at : ℕ) → 0 < at → at < h.len → g.codes.now ≡ swap h.codes.now at (parent at) → Kept h g → Tells below h.keys.now (at_place h at) (at_place h (parent at)) true → ButAt below h at → ButAt below g (parent at)
+  rise_step h g at pos inside e kept less but d =
       let u = before below h.keys.now d in
-      let S = swapped h g at (parent at) s inside (omega arith) e in
+      let S = swapped h g at (parent at) inside (omega arith) e in
       let asym = before_asym laws h.keys.now d in
       let tr = before_trans laws h.keys.now d in
       let co = before_cotrans laws h.keys.now d in
@@ -43,17 +43,17 @@ module _ {K : Type 0} {kind : Kind K} (laws : Laws kind) where
       ))
 
   -- the same, where the place over it goes by another name
-  pub rise_by : (h g : Heap K) (at up : ℕ) → up ≡ parent at → 0 < at → at < h.len → Sound h → g.codes.now ≡ swap h.codes.now at up → Kept h g → Tells below h.keys.now (at_place h at) (at_place h up) true → ButAt below h at → ButAt below g up
-  rise_by h g at up is pos inside s e kept less but =
+  pub rise_by : (h g : Heap K) (at up : ℕ) → up ≡ parent at → 0 < at → at < h.len → g.codes.now ≡ swap h.codes.now at up → Kept h g → Tells below h.keys.now (at_place h at) (at_place h up) true → ButAt below h at → ButAt below g up
+  rise_by h g at up is pos inside e kept less but =
       subst (λ u. g.codes.now ≡ swap h.codes.now at u → Tells below h.keys.now (at_place h at) (at_place h u) true → ButAt below g u) (sym is)
-      (λ e' less'. rise_step h g at pos inside s e' kept less' but) e less
+      (λ e' less'. rise_step h g at pos inside e' kept less' but) e less
 
-  pub sink_step : (h g : Heap K) (at down : ℕ) → LeastChild below h at down → Sound h → g.codes.now ≡ swap h.codes.now at down → Kept h g → Tells below h.keys.now (at_place h down) (at_place h at) true → ButUnder below h at → ButUnder below g down
-  sink_step h g at down child s e kept less but d =
+  pub sink_step : (h g : Heap K) (at down : ℕ) → LeastChild below h at down → g.codes.now ≡ swap h.codes.now at down → Kept h g → Tells below h.keys.now (at_place h down) (at_place h at) true → ButUnder below h at → ButUnder below g down
+  sink_step h g at down child e kept less but d =
       let u = before below h.keys.now d in
       let after = child.after in
       let inside = child.inside in
-      let S = swapped h g at down s (omega arith) inside e in
+      let S = swapped h g at down (omega arith) inside e in
       let asym = before_asym laws h.keys.now d in
       let tr = before_trans laws h.keys.now d in
       let co = before_cotrans laws h.keys.now d in
@@ -64,23 +64,20 @@ module _ {K : Type 0} {kind : Kind K} (laws : Laws kind) where
       ))
 
   -- the code at `at` does not come before the one over it
-  pub rise_end : (h : Heap K) (at : ℕ) → Sound h → ButAt below h at → (0 < at → Tells below h.keys.now (at_place h at) (at_place h (parent at)) false) → Good below h
-  rise_end h at s but here = record {
-    sound = s;
-    ordered = λ d. risen (before below h.keys.now d) h.len at (at_place h) (but d).0 (λ pos. sym (here pos d));
+  pub rise_end : (h : Heap K) (at : ℕ) → ButAt below h at → (0 < at → Tells below h.keys.now (at_place h at) (at_place h (parent at)) false) → Good below h
+  rise_end h at but here = record {
+      ordered = λ d. risen (before below h.keys.now d) h.len at (at_place h) (but d).0 (λ pos. sym (here pos d));
   }
 
   -- no code under `at` comes before it
-  pub sink_leaf : (h : Heap K) (at : ℕ) → Sound h → ButUnder below h at → h.len / 2 ≤ at → Good below h
-  sink_leaf h at s but leaf = record {
-    sound = s;
-    ordered = λ d. sunk (before below h.keys.now d) h.len at (at_place h) (but d).0 (λ k p l q. absurd (omega arith));
+  pub sink_leaf : (h : Heap K) (at : ℕ) → ButUnder below h at → h.len / 2 ≤ at → Good below h
+  sink_leaf h at but leaf = record {
+      ordered = λ d. sunk (before below h.keys.now d) h.len at (at_place h) (but d).0 (λ k p l q. absurd (omega arith));
   }
 
-  pub sink_end : (h : Heap K) (at down : ℕ) → Sound h → ButUnder below h at → LeastChild below h at down → Tells below h.keys.now (at_place h down) (at_place h at) false → Good below h
-  sink_end h at down s but child more = record {
-    sound = s;
-    ordered = λ d. sunk (before below h.keys.now d) h.len at (at_place h) (but d).0
+  pub sink_end : (h : Heap K) (at down : ℕ) → ButUnder below h at → LeastChild below h at down → Tells below h.keys.now (at_place h down) (at_place h at) false → Good below h
+  sink_end h at down but child more = record {
+      ordered = λ d. sunk (before below h.keys.now d) h.len at (at_place h) (but d).0
         (λ k p l q. before_cotrans laws h.keys.now d (at_place h k) (at_place h down) (at_place h at) (child.least d k p l q) (sym (more d)));
   }
 

@@ -1,15 +1,12 @@
 -- What waits in a heap over lent rows, and a heap in good order. Assumes nothing.
-use Rattle.std.specs.Prelude.{◌≡◌, ℕ, ◌-◌, ◌/◌, ◌<◌, ◌≤◌, min, Bool, true, false, cond, ◌&&◌, List, [], ◌∷◌, map, length, None, Option, ◌==◌, nat_lt, slice_index, slice_index_or}
+use Rattle.std.specs.Prelude.{◌≡◌, ℕ, ◌-◌, ◌/◌, ◌<◌, min, Bool, true, false, cond, List, [], ◌∷◌, map, length, None, Option, nat_lt, slice_index, slice_index_or}
 use Rattle.std.specs.List.{range_with_len, slice_get}
+use Rattle.heap.specs.Places.{stands}
 use Rattle.heap.specs.declared.Heap.{Heap}
 
 -- how many codes the three rows have places for; a code is kept in 32 bits, so at most 2^32 − 1
 abbrev pub codes_held : {K : Type 0} → List K → List ℕ → List ℕ → ℕ
 codes_held keys codes places = min 4294967295 (min (length keys) (min (length codes) (length places)))
-
--- a code waits where its place is one of the first len, and the code at that place is this one
-abbrev pub stands : ℕ → List ℕ → List ℕ → ℕ → Bool
-stands len codes places c = nat_lt (slice_index places c) len && slice_index codes (slice_index places c) == c
 
 -- the key at which a code waits, or none
 abbrev pub waits_at : {K : Type 0} → ℕ → List K → List ℕ → List ℕ → ℕ → Option K
@@ -22,15 +19,6 @@ heap_waits h = map (waits_at h.len h.keys.now h.codes.now h.places.now) (range_w
 -- the memory that a heap was lent
 abbrev pub heap_lender : {K : Type 0} → Heap K → List ℕ
 heap_lender h = h.keys.ghost_name ∷ h.codes.ghost_name ∷ h.places.ghost_name ∷ []
-
--- each of the first len codes is below the capacity, and its place is noted
-abbrev pub Found : ℕ → ℕ → List ℕ → List ℕ → Type 0
-Found len cap codes places = (k : ℕ) → k < len → (slice_index codes k < cap) × (slice_index places (slice_index codes k) ≡ k)
-
--- no more codes wait than there are, and the place of each is noted
-pub record Sound {K : Type 0} (h : Heap K) : Type 0 where
-  pub within : h.len ≤ h.cap
-  pub found : Found h.len h.cap h.codes.now h.places.now
 
 -- the code a comes before b: by the keys, and then by the codes; d stands for a key past the row, of which nothing is asked
 abbrev pub before : {K : Type 0} → (K → K → Bool) → List K → K → ℕ → ℕ → Bool
@@ -45,7 +33,6 @@ parent k = (k - 1) / 2
 abbrev pub Ordered : (ℕ → ℕ → Bool) → ℕ → (ℕ → ℕ) → Type 0
 Ordered u len f = (k : ℕ) → 0 < k → k < len → u (f k) (f (parent k)) ≡ false
 
--- a heap in good order: sound, and no code that waits comes before its parent
+-- a heap in good order: no code that waits comes before its parent
 pub record Good {K : Type 0} (below : K → K → Bool) (h : Heap K) : Type 0 where
-  pub sound : Sound h
   pub ordered : (d : K) → Ordered (before below h.keys.now d) h.len (λ k. slice_index h.codes.now k)

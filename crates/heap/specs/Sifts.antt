@@ -1,6 +1,6 @@
 -- What the heap's own functions do, and what they keep while a code rises or sinks. Assumes nothing.
 use Rattle.std.specs.Prelude.{◌≡◌, ℕ, ◌+◌, ◌-◌, ◌<◌, ◌≤◌, Bool, true, false, ◌≢◌, List, Some, None, Option, slice_index, slice_index_or, slice_set}
-use Rattle.std.specs.List.{slice_get}
+use Rattle.std.specs.List.{slice_get, swap}
 use Rattle.heap.specs.declared.Heap.{Heap}
 use Rattle.heap.specs.Heaps.{heap_waits, heap_lender, before, parent}
 use Rattle.queue.specs.Waits.{Least, taken}
@@ -26,11 +26,10 @@ pub record Made {K : Type 0} (h g : Heap K) (len : ℕ) (keys : List K) (codes p
 abbrev pub Emptied : {K : Type 0} → Heap K → Heap K → Type 0
 Emptied h g = Made h g 0 h.keys.now h.codes.now h.places.now
 
--- the codes at the places i and j are exchanged
+-- the codes at the places i and j are exchanged, and what is noted for them
 abbrev pub Exchanged : {K : Type 0} → Heap K → Heap K → ℕ → ℕ → Type 0
 Exchanged h g i j =
-    Made h g h.len h.keys.now (slice_set (slice_set h.codes.now i (slice_index h.codes.now j)) j (slice_index h.codes.now i))
-    (slice_set (slice_set h.places.now (slice_index h.codes.now j) i) (slice_index h.codes.now i) j)
+    Made h g h.len h.keys.now (swap h.codes.now i j) (swap h.places.now (slice_index h.codes.now i) (slice_index h.codes.now j))
 
 -- a code has another key
 abbrev pub Rekeyed : {K : Type 0} → Heap K → Heap K → ℕ → K → Type 0

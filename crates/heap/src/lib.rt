@@ -7,7 +7,10 @@ mod methods;
 mod tests;
 
 ghost use Rattle.std.specs.Prelude.{◌^◌, ◌<◌, ◌≤◌, length};
+ghost use Rattle.heap.specs.Places.{Found};
 
+// All memory is the caller's, so these are lent slices with a count beside them. The order of the codes is no field: it does not
+// hold while a code rises or sinks, and a field that speaks of it would ask for a kind of cost wherever the type is named.
 #[derive(Drop)]
 pub struct Heap<'m, K> {
     // How many codes there are; they are kept in 32 bits.
@@ -21,4 +24,7 @@ pub struct Heap<'m, K> {
     // By code: its place in `codes`, where it waits, and anything where it does not.
     places: &'m mut [u32],
     ghost room: { (cap < 2 ^ 32) × (cap ≤ length keys.now) × (cap ≤ length codes.now) × (cap ≤ length places.now) },
+    ghost within: { len ≤ cap },
+    // Each code that waits is below the capacity, and its place is noted.
+    ghost found: { Found len cap codes.now places.now },
 }

@@ -1,7 +1,8 @@
 // The methods of the queue over a heap.
 ghost use Rattle.std.specs.Prelude.{◌≡◌, ◌+◌, ◌-◌, ◌<◌, min, true, false, [], ◌∷◌, length, replicate, Some, None, slice_index};
-ghost use Rattle.std.specs.List.{slice_get};
-ghost use Rattle.heap.specs.Heaps.{codes_held, heap_waits, heap_lender, parent, stands, Sound, Good};
+ghost use Rattle.std.specs.List.{slice_get, swap};
+ghost use Rattle.heap.specs.Heaps.{codes_held, heap_waits, heap_lender, parent, Good};
+ghost use Rattle.heap.specs.Places.{stands};
 ghost use Rattle.heap.specs.Sifts.{Tells, TellsLess, Emptied, Exchanged, Rekeyed, Appended, LastFirst, Kept, ButAt, ButUnder, Chosen, Top, Takes};
 ghost use Rattle.queue.specs.Waits.{put_in};
 
@@ -24,37 +25,15 @@ fn place_over(at: u32) -> u32
     (at - 1) / 2
 }
 
-// Whether the code `a` comes before `b`: by the keys, and then by the codes.
-fn is_before<K: Cost>(keys: &[K], a: u32, b: u32) -> bool
-    requires { (a < length keys.now) × (b < length keys.now) }
-    ensures { Tells K.Cost.kind.below keys.now a b result }
+// Exchanges the codes at two places, and what is noted for them.
+fn exchange(codes: &mut [u32], places: &mut [u32], i: usize, j: usize)
+    requires inside { (i < length codes.old) × (j < length codes.old) }
+    requires noted { (slice_index codes.old i < length places.old) × (slice_index codes.old j < length places.old) }
+    ensures coded { codes.new ≡ swap codes.old i j }
+    ensures placed { places.new ≡ swap places.old (slice_index codes.old i) (slice_index codes.old j) }
 {
-    let first = keys[a as usize];
-    let second = keys[b as usize];
-    if first.is_below(second) {
-        true
-    } else if second.is_below(first) {
-        false
-    } else {
-        a < b
-    }
-}
-
-// Whether `key` is below the key at a code.
-fn is_less<K: Cost>(key: K, keys: &[K], code: u32) -> bool
-    requires { code < length keys.now }
-    ensures { TellsLess K.Cost.kind.below key keys.now code result }
-{
-    let old = keys[code as usize];
-    key.is_below(old)
-}
-
-// The key at a code.
-fn key_at<K: Cost>(keys: &[K], code: u32) -> K
-    requires { code < length keys.now }
-    ensures { slice_get keys.now code ≡ Some result }
-{
-    keys[code as usize]
+    places.swap(codes[i] as usize, codes[j] as usize);
+    codes.swap(i, j);
 }
 
 impl<'m, K: Cost> Heap<'m, K> {
@@ -92,7 +71,6 @@ impl<'m, K: Cost> Heap<'m, K> {
     // Whether the code waits.
     fn has(&self, code: u32) -> bool
         requires code_lt_cap { code < self.now.cap }
-        requires sound { Sound self.now }
         ensures { result ≡ stands self.now.len self.now.codes.now self.now.places.now code }
     {
         let at = self.places[code as usize];
@@ -101,26 +79,26 @@ impl<'m, K: Cost> Heap<'m, K> {
 
     // The first code and its key, or none where nothing waits.
     fn top(&self) -> Option<(K, usize)>
-        requires { Sound self.now }
         ensures { Top self.now result }
     {
         if self.len == 0 {
             None
         } else {
             let code = self.codes[0];
-            Some((key_at(&*self.keys, code), code as usize))
+            Some((self.keys[code as usize], code as usize))
         }
     }
 
-    // Whether the code at one place comes before that at another.
+    // Whether the code at one place comes before that at another: by their keys, and then by the codes.
     fn precedes(&self, i: u32, j: u32) -> bool
-        requires sound { Sound self.now }
         requires inside { (i < self.now.len) × (j < self.now.len) }
         ensures { Tells K.Cost.kind.below self.now.keys.now (slice_index self.now.codes.now i) (slice_index self.now.codes.now j) result }
     {
         let a = self.codes[i as usize];
         let b = self.codes[j as usize];
-        is_before(&*self.keys, a, b)
+        let first = self.keys[a as usize];
+        let second = self.keys[b as usize];
+        first.is_below(second) || (!second.is_below(first) && a < b)
     }
 
     // Whether `key` is below the key of a code.
@@ -128,23 +106,15 @@ impl<'m, K: Cost> Heap<'m, K> {
         requires { code < self.now.cap }
         ensures { TellsLess K.Cost.kind.below key self.now.keys.now code result }
     {
-        is_less(key, &*self.keys, code)
+        key.is_below(self.keys[code as usize])
     }
 
     // Exchanges the codes at two places.
     fn swap(&mut self, i: u32, j: u32)
-        requires sound { Sound self.old }
         requires inside { (i < self.old.len) × (j < self.old.len) }
         ensures { Exchanged self.old self.new i j }
     {
-        let a = i as usize;
-        let b = j as usize;
-        let code_a = self.codes[a];
-        let code_b = self.codes[b];
-        self.codes[a] = code_b;
-        self.codes[b] = code_a;
-        self.places[code_b as usize] = i;
-        self.places[code_a as usize] = j;
+        exchange(self.codes, self.places, i as usize, j as usize);
     }
 
     // Gives a code this key.
@@ -157,7 +127,8 @@ impl<'m, K: Cost> Heap<'m, K> {
 
     // Adds a code with this key behind all that wait.
     fn append(&mut self, code: u32, key: K)
-        requires { (code < self.old.cap) × (self.old.len < self.old.cap) }
+        requires inside { code < self.old.cap }
+        requires waits { stands self.old.len self.old.codes.now self.old.places.now code ≡ false }
         ensures { Appended self.old self.new code key }
     {
         let end = self.len;
@@ -169,20 +140,18 @@ impl<'m, K: Cost> Heap<'m, K> {
 
     // Puts the last code in the place of the first, which waits no more.
     fn last_to_first(&mut self)
-        requires sound { Sound self.old }
         requires inside { 0 < self.old.len }
         ensures { LastFirst self.old self.new }
     {
         let end = self.len - 1;
         let last = self.codes[end as usize];
-        self.codes[0] = last;
-        self.places[last as usize] = 0;
         self.len = end;
+        self.places[last as usize] = 0;
+        self.codes[0] = last;
     }
 
     // Lets the code at `start` rise to where it belongs.
     fn rise(&mut self, start: u32)
-        requires sound { Sound self.old }
         requires inside { start < self.old.len }
         requires but { ButAt K.Cost.kind.below self.old start }
         ensures good { Good K.Cost.kind.below self.new }
@@ -191,7 +160,7 @@ impl<'m, K: Cost> Heap<'m, K> {
         let mut at = start;
         while at > 0 {
             let up = place_over(at);
-            if !(*self).precedes(at, up) {
+            if !self.precedes(at, up) {
                 break;
             }
             self.swap(at, up);
@@ -201,7 +170,6 @@ impl<'m, K: Cost> Heap<'m, K> {
 
     // The place of the first of the codes right under `at`.
     fn child(&self, at: u32) -> u32
-        requires sound { Sound self.now }
         requires inside { at + at + 1 < self.now.len }
         ensures { Chosen K.Cost.kind.below self.now at result }
     {
@@ -209,7 +177,7 @@ impl<'m, K: Cost> Heap<'m, K> {
         let right = left + 1;
         if right >= self.len {
             left
-        } else if (*self).precedes(right, left) {
+        } else if self.precedes(right, left) {
             right
         } else {
             left
@@ -218,15 +186,14 @@ impl<'m, K: Cost> Heap<'m, K> {
 
     // Lets the code at `start` sink to where it belongs.
     fn sink(&mut self, start: u32)
-        requires sound { Sound self.old }
         requires but { ButUnder K.Cost.kind.below self.old start }
         ensures good { Good K.Cost.kind.below self.new }
         ensures kept { Kept self.old self.new }
     {
         let mut at = start;
         while at < self.len / 2 {
-            let next = (*self).child(at);
-            if !(*self).precedes(next, at) {
+            let next = self.child(at);
+            if !self.precedes(next, at) {
                 break;
             }
             self.swap(at, next);
@@ -244,7 +211,7 @@ impl<'m, K: Cost> Heap<'m, K> {
         ensures waits { heap_waits self.new ≡ put_in K.Cost.kind.below (heap_waits self.old) code key }
     {
         let at = self.places[code as usize];
-        if (*self).falls(code, key) {
+        if self.falls(code, key) {
             self.set_key(code, key);
             self.rise(at);
         }
@@ -272,7 +239,7 @@ impl<'m, K: Cost> Heap<'m, K> {
         ensures lends { heap_lender self.new ≡ heap_lender self.old }
         ensures waits { heap_waits self.new ≡ put_in K.Cost.kind.below (heap_waits self.old) code key }
     {
-        if (*self).has(code) {
+        if self.has(code) {
             self.lower(code, key);
         } else {
             self.insert(code, key);
@@ -303,7 +270,7 @@ impl<'m, K: Cost> Queue for Heap<'m, K> {
     ghost lender = { heap_lender };
 
     fn capacity(&self) -> usize {
-        (*self).size() as usize
+        self.size() as usize
     }
 
     fn clear(&mut self) {
@@ -311,7 +278,7 @@ impl<'m, K: Cost> Queue for Heap<'m, K> {
     }
 
     fn put(&mut self, code: usize, cost: K) -> Result<(), Refusal> {
-        let size = (*self).size() as usize;
+        let size = self.size() as usize;
         if code < size {
             self.lower_or_insert(code as u32, cost);
             Ok(())
@@ -321,7 +288,7 @@ impl<'m, K: Cost> Queue for Heap<'m, K> {
     }
 
     fn least(&self) -> Option<(K, usize)> {
-        (*self).top()
+        self.top()
     }
 
     fn take(&mut self) -> Option<(K, usize)> {

@@ -10,14 +10,6 @@ fn crossings(crossings: u64, money: u64) -> CrossingsFirst {
     CrossingsFirst { crossings, money }
 }
 
-// The number of a refusal, and 0 where there is none.
-fn refused(answer: Result<(), Refusal>) -> u8 {
-    match answer {
-        Ok(_) => 0,
-        Err(refusal) => refusal.number(),
-    }
-}
-
 // The codes take their place in the queue, one after the other.
 fn put_two<Q: Queue>(queue: &mut Q, a: usize, cost_a: Q::Cost, b: usize, cost_b: Q::Cost)
     requires { Q.ok queue.old }
@@ -27,26 +19,23 @@ fn put_two<Q: Queue>(queue: &mut Q, a: usize, cost_a: Q::Cost, b: usize, cost_b:
     let _ = (*queue).put(b, cost_b);
 }
 
-// The code that is taken, and 99 where none waits.
-fn next<Q: Queue>(queue: &mut Q) -> usize
+// The code that is taken, if one waits.
+fn next<Q: Queue>(queue: &mut Q) -> Option<usize>
     requires { Q.ok queue.old }
     ensures { Q.ok queue.new }
 {
-    match (*queue).take() {
-        None => 99,
-        Some((_, code)) => code,
-    }
+    (*queue).take().map(|(_, code)| code)
 }
 
 // The next three codes.
-fn next_three<Q: Queue>(queue: &mut Q) -> (usize, usize, usize)
+fn next_three<Q: Queue>(queue: &mut Q) -> [Option<usize>; 3]
     requires { Q.ok queue.old }
     ensures { Q.ok queue.new }
 {
     let first = next(&mut *queue);
     let second = next(&mut *queue);
     let third = next(&mut *queue);
-    (first, second, third)
+    [first, second, third]
 }
 
 #[test]
@@ -69,8 +58,8 @@ fn heap_by_money_and_then_code(rt: HostRuntime) {
     put_two(&mut heap, 0, money(8), 3, money(9));
     // One is lowered, the other is not raised.
     put_two(&mut heap, 3, money(6), 2, money(7));
-    assert!(rt; next_three(&mut heap) == (2, 4, 3));
-    assert!(rt; next_three(&mut heap) == (0, 99, 99));
+    assert!(rt; next_three(&mut heap) == [Some(2), Some(4), Some(3)]);
+    assert!(rt; next_three(&mut heap) == [Some(0), None, None]);
 }
 
 #[test]
@@ -81,7 +70,7 @@ fn heap_by_crossings_first(rt: HostRuntime) {
     let mut heap = Heap::over(&mut keys, &mut codes, &mut places);
     put_two(&mut heap, 0, crossings(2, 5), 1, crossings(1, 900));
     put_two(&mut heap, 2, crossings(1, 800), 0, crossings(2, 6));
-    assert!(rt; next_three(&mut heap) == (2, 1, 0));
+    assert!(rt; next_three(&mut heap) == [Some(2), Some(1), Some(0)]);
 }
 
 #[test]
@@ -94,7 +83,7 @@ fn heap_cleared_and_filled_again(rt: HostRuntime) {
     heap.clear();
     assert!(rt; heap.least().is_none());
     put_two(&mut heap, 1, money(3), 1, money(4));
-    assert!(rt; next_three(&mut heap) == (1, 99, 99));
+    assert!(rt; next_three(&mut heap) == [Some(1), None, None]);
 }
 
 #[test]
@@ -103,6 +92,6 @@ fn heap_refuses_a_code_beyond(rt: HostRuntime) {
     let mut codes = [0; 2];
     let mut places = [0; 2];
     let mut heap = Heap::over(&mut keys, &mut codes, &mut places);
-    assert!(rt; refused(heap.put(2, money(1))) == 20);
-    assert!(rt; refused(heap.put(1, money(1))) == 0);
+    assert!(rt; heap.put(2, money(1)).map_err(Refusal::number) == Err(20));
+    assert!(rt; heap.put(1, money(1)).is_ok());
 }

@@ -1,7 +1,6 @@
 -- What a view says of the labels' memory, and of its outlets. Assumes nothing.
 use Rattle.std.proofs.Common.{◌≡◌, ℕ, suc, ◌-◌, ◌<◌, ◌≤◌, true, false, eqb, ltb, ◌⊎◌, List, [], ◌∷◌, length, get_or, take, drop, Ok, Err, Option, Result, sym, refl, ap, ◌∙◌, subst, inl, inr, arith}
-use Rattle.std.proofs.lemmas.List.{get_or-take, length-take-le}
-use Rattle.std.proofs.lemmas.Slice.{between_is}
+use Rattle.std.proofs.lemmas.List.{take_all}
 use Rattle.std.proofs.lemmas.Bool.{cases_Bool, cond-true, cond-false, eqb-false, ltb-false}
 use Rattle.network.specs.declared.run.Run.{Run}
 use Rattle.network.specs.declared.refusal.Refusal.{Refusal}
@@ -34,19 +33,15 @@ getd_rest [] k = refl
 getd_rest (x ∷ xs) k = refl
 
 -- the outlets beside the root, as the code reads them
-module _ (places : List ℕ) (count : ℕ) (fits : count ≤ length places) where
-  pub others_are : take (count - 1) (drop 1 places) ≡ drop 1 (take count places)
-  others_are = between_is places 1 count
+pub others_are : (os : List ℕ) → take (length os - 1) (drop 1 os) ≡ drop 1 os
+others_are os = let long = length_rest os in take_all (length os - 1) (drop 1 os) (omega arith)
 
-  pub others_long : length (drop 1 (take count places)) ≡ count - 1
-  others_long = length_rest (take count places) ∙ ap (λ n. n - 1) (length-take-le count places fits)
-
-  pub others_within : (n : ℕ) → ((k : ℕ) → k < count → get_or places k 0 < n) → Within n (drop 1 (take count places))
-  others_within n inside =
-      within_from n (drop 1 (take count places))
-      (λ k lt.
-      let long = others_long in
-      subst (λ x. x < n) (sym (getd_rest (take count places) k ∙ get_or-take count places (suc k) 0 (omega arith))) (inside (suc k) (omega arith)))
+pub others_within : (n : ℕ) (os : List ℕ) → ((k : ℕ) → k < length os → get_or os k 0 < n) → Within n (drop 1 os)
+others_within n os inside =
+    within_from n (drop 1 os)
+    (λ k lt.
+    let long = length_rest os in
+    subst (λ x. x < n) (sym (getd_rest os k)) (inside (suc k) (omega arith)))
 
 -- the room that the questions found
 pub record Room {K : Type 0} (l : Layout K) (places capacity : ℕ) (size : Size) : Type 0 where

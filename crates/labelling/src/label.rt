@@ -114,7 +114,6 @@ impl<'m, Q: Queue, E: Estimator<Cost = Q::Cost>> Desk<'m, Q, E> {
         let places = self.labels.len().min(self.ways.len());
         let size = room(view, places, self.queue.capacity())?;
         let outlets = view.outlets;
-        let k = outlets.count as usize;
-        Ok(self.label_from(size, view, outlets.places[0], &outlets.places[1..k], limit))
+        Ok(self.label_from(size, view, outlets[0], &outlets[1..], limit))
     }
 }

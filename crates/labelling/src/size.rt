@@ -10,7 +10,7 @@ use network::{Cost, Junction, Refusal};
 
 // How many sets the outlets but one have.
 #[tactic(auto, using(std::proofs::lemmas::Nat::one_shl))]
-pub(crate) fn sets_of(outlets: u8) -> u16
+pub(crate) fn sets_of(outlets: usize) -> u16
     requires { (0 < outlets) × (outlets ≤ 12) }
     ensures { result ≡ 2 ^ (outlets - 1) }
 {
@@ -37,7 +37,7 @@ impl Size {
 pub fn room<K: Cost>(view: &View<'_, K>, places: usize, capacity: usize) -> Result<Size, Refusal>
     ensures { result ≡ room_answer (layout_of view.now) places capacity }
 {
-    let outlets = view.outlets.count;
+    let outlets = view.outlets.len();
     if outlets == 0 {
         return Err(Refusal::NoOutlet);
     }

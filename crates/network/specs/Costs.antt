@@ -29,6 +29,14 @@ pub record Laws {K : Type 0} (k : Kind K) : Type 0 where
 abbrev pub summed : {K : Type 0} → Kind K → K → K → Option K
 summed k a b = cond (nat_le (k.bulk a + k.bulk b) (2 ^ 50)) (Some (k.plus a b)) None
 
+-- the greater of two costs
+abbrev pub greater : {K : Type 0} → Kind K → K → K → K
+greater kind a b = cond (kind.below a b) b a
+
+-- the lesser of two costs
+abbrev pub lesser : {K : Type 0} → Kind K → K → K → K
+lesser kind a b = cond (kind.below b a) b a
+
 -- a cost that a run may have: above zero, and of a bulk of at most 1,000,000
 pub record Price {K : Type 0} (k : Kind K) (cost : K) : Type 0 where
   pub above_zero : k.below k.zero cost ≡ true

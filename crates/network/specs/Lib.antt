@@ -2,6 +2,7 @@ pub mod Costs
 pub mod Money
 pub mod Crossings
 pub mod Numbers
+pub mod Texts
 pub mod Layouts
 pub mod Bounds
 pub mod CrossingsFirsts

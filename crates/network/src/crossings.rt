@@ -4,8 +4,9 @@ ghost use Rattle.network.specs.CrossingsFirsts.{crossings_laws};
 
 use crate::cost::Cost;
 use crate::money::can_add;
+use std::fmt;
 
-#[derive(Clone, Copy)]
+#[derive(Clone, Copy, Debug, PartialEq, Eq, PartialOrd, Ord)]
 pub struct CrossingsFirst {
     pub crossings: u64,
     pub money: u64,
@@ -35,14 +36,21 @@ impl Cost for CrossingsFirst {
     }
 
     fn is_below(self, other: CrossingsFirst) -> bool {
-        if self.crossings == other.crossings {
-            self.money < other.money
-        } else {
-            self.crossings < other.crossings
-        }
+        self < other
     }
 
     fn bulk(self) -> u64 {
         self.crossings.max(self.money)
+    }
+}
+
+impl fmt::Display for CrossingsFirst {
+    ghost use Rattle.std.specs.Prelude.{Some};
+    ghost use Rattle.network.specs.Texts.{crossings_text};
+
+    ghost output = { λ cost. Some (crossings_text cost) };
+
+    fn fmt<W: fmt::Write>(&self, f: &mut fmt::Formatter<W>) -> fmt::Result {
+        write!(f, "{}+{}", self.crossings, self.money)
     }
 }

@@ -4,11 +4,12 @@ ghost use Rattle.network.specs.Money.{money_kind};
 ghost use Rattle.network.specs.Moneys.{money_laws};
 
 use crate::cost::Cost;
+use std::fmt;
 
 // The most that the bulks of two costs may add to.
 const MOST_BULK: u64 = 1 << 50;
 
-#[derive(Clone, Copy)]
+#[derive(Clone, Copy, Debug, PartialEq, Eq, PartialOrd, Ord)]
 pub struct Money {
     pub amount: u64,
 }
@@ -17,7 +18,7 @@ pub struct Money {
 pub(crate) fn can_add(a: u64, b: u64) -> bool
     ensures { result ≡ nat_le (a + b) (2 ^ 50) }
 {
-    a <= MOST_BULK && b <= MOST_BULK - a
+    a.saturating_add(b) <= MOST_BULK
 }
 
 impl Cost for Money {
@@ -40,10 +41,21 @@ impl Cost for Money {
     }
 
     fn is_below(self, other: Money) -> bool {
-        self.amount < other.amount
+        self < other
     }
 
     fn bulk(self) -> u64 {
         self.amount
+    }
+}
+
+impl fmt::Display for Money {
+    ghost use Rattle.std.specs.Prelude.{Some};
+    ghost use Rattle.network.specs.Texts.{money_text};
+
+    ghost output = { λ money. Some (money_text money) };
+
+    fn fmt<W: fmt::Write>(&self, f: &mut fmt::Formatter<W>) -> fmt::Result {
+        write!(f, "{}", self.amount)
     }
 }

@@ -2,26 +2,28 @@
 ghost use Rattle.std.specs.Prelude.{◌≡◌};
 ghost use Rattle.network.specs.Numbers.{number_of};
 
-#[derive(Clone, Copy)]
+use std::fmt;
+
+#[derive(Clone, Copy, Debug, PartialEq, Eq)]
 pub enum Refusal {
-    JunctionCount,
-    RunCapacity,
-    NotAJunction,
-    SameEnds,
-    NoCost,
-    TooBulky,
-    RunsFull,
-    NoRun,
-    RunState,
-    AlreadyMarked,
-    OutletsFull,
-    NotMarked,
-    NoOutlet,
-    LabelMemory,
-    QueueCapacity,
-    EstimatorFit,
-    AnswerRow,
-    CodeBeyond,
+    JunctionCount = 1,
+    RunCapacity = 2,
+    NotAJunction = 3,
+    SameEnds = 4,
+    NoCost = 5,
+    TooBulky = 6,
+    RunsFull = 7,
+    NoRun = 8,
+    RunState = 9,
+    AlreadyMarked = 10,
+    OutletsFull = 11,
+    NotMarked = 12,
+    NoOutlet = 13,
+    LabelMemory = 14,
+    QueueCapacity = 15,
+    EstimatorFit = 16,
+    AnswerRow = 17,
+    CodeBeyond = 20,
 }
 
 impl Refusal {
@@ -29,25 +31,18 @@ impl Refusal {
     pub fn number(self) -> u8
         ensures { result ≡ number_of self }
     {
-        match self {
-            Refusal::JunctionCount => 1,
-            Refusal::RunCapacity => 2,
-            Refusal::NotAJunction => 3,
-            Refusal::SameEnds => 4,
-            Refusal::NoCost => 5,
-            Refusal::TooBulky => 6,
-            Refusal::RunsFull => 7,
-            Refusal::NoRun => 8,
-            Refusal::RunState => 9,
-            Refusal::AlreadyMarked => 10,
-            Refusal::OutletsFull => 11,
-            Refusal::NotMarked => 12,
-            Refusal::NoOutlet => 13,
-            Refusal::LabelMemory => 14,
-            Refusal::QueueCapacity => 15,
-            Refusal::EstimatorFit => 16,
-            Refusal::AnswerRow => 17,
-            Refusal::CodeBeyond => 20,
-        }
+        self as u8
+    }
+}
+
+impl fmt::Display for Refusal {
+    ghost use Rattle.std.specs.Prelude.{Some};
+    ghost use Rattle.network.specs.Texts.{refusal_text};
+
+    ghost output = { λ refusal. Some (refusal_text refusal) };
+
+    fn fmt<W: fmt::Write>(&self, f: &mut fmt::Formatter<W>) -> fmt::Result {
+        let number = self.number();
+        write!(f, "refused {number}")
     }
 }

@@ -14,6 +14,8 @@ fn crossings_before_money(rt: HostRuntime) {
     assert!(rt; crossings(2, 4).is_below(many));
     assert!(rt; !many.is_below(many));
     assert!(rt; few.bulk() == 900);
+    assert!(rt; many.greater(few) == many);
+    assert!(rt; many.lesser(few) == few);
 }
 
 // The larger parts together are more than 2^50, though neither part of the sum is.
@@ -25,7 +27,7 @@ fn bulks_and_not_parts(rt: HostRuntime) {
 }
 
 // Not a cost: the worst class of road on the way, and then money.
-#[derive(Clone, Copy)]
+#[derive(Clone, Copy, PartialEq, Eq, PartialOrd, Ord)]
 struct WorstClass {
     class: u64,
     money: u64,
@@ -35,13 +37,14 @@ fn worst(class: u64, money: u64) -> WorstClass {
     WorstClass { class, money }
 }
 
-// Both ways together: the worse class, and all the money.
-fn joined(a: WorstClass, b: WorstClass) -> WorstClass {
-    worst(a.class.max(b.class), a.money.saturating_add(b.money))
-}
-
-fn is_before(a: WorstClass, b: WorstClass) -> bool {
-    a.class < b.class || a.class == b.class && a.money < b.money
+impl WorstClass {
+    // Both ways together: the worse class, and all the money.
+    fn joined(self, other: WorstClass) -> WorstClass {
+        worst(
+            self.class.max(other.class),
+            self.money.saturating_add(other.money),
+        )
+    }
 }
 
 // The same joined to both turns their order, so the laws of a cost do not hold.
@@ -50,6 +53,6 @@ fn worst_class_is_no_cost(rt: HostRuntime) {
     let a = worst(2, 5);
     let b = worst(3, 1);
     let more = worst(3, 0);
-    assert!(rt; is_before(a, b));
-    assert!(rt; !is_before(joined(a, more), joined(b, more)));
+    assert!(rt; a < b);
+    assert!(rt; a.joined(more) >= b.joined(more));
 }

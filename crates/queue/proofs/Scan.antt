@@ -1,9 +1,9 @@
 -- A look through all places keeps the first least key. Assumes nothing.
-use Rattle.std.proofs.Common.{◌≡◌, ℕ, ◌+◌, ◌<◌, ◌≤◌, Bool, true, false, cond, ◌≢◌, List, length, get_or, set, replicate, Some, None, Option, sym, refl, ap, ◌∙◌, subst, ⊎_elim, arith, below_more}
-use lib.ListN.{length-replicate, get_or-replicate}
-use Rattle.std.proofs.lemmas.List.{get_or_past, ext_get_or, length-set, get_or-set_same, get_or-set_other}
+use Rattle.std.proofs.Common.{◌≡◌, ℕ, ◌+◌, ◌<◌, Bool, true, false, cond, List, length, get_or, Some, None, Option, sym, refl, ap, ◌∙◌, subst, ⊎_elim, arith}
+use Rattle.std.proofs.lemmas.List.{get_or_past}
 use Rattle.std.proofs.lemmas.Bool.{cases_Bool, both_ways, cases_lt, cases_order}
 use Rattle.network.specs.Costs.{Kind, Laws}
+use Rattle.network.proofs.Order.{le_trans, weaken}
 use Rattle.queue.specs.Waits.{FirstLeast, Least, better}
 
 pub none≢some : {K : Type 0} {k : K} {G : Type 0} → None ≡ Some k → G
@@ -24,14 +24,6 @@ abbrev pub LeastTo : {K : Type 0} → (K → K → Bool) → List (Option K) →
 LeastTo below ks n None = (d : ℕ) → d < n → get_or ks d None ≡ None
 LeastTo below ks n (Some p) = FirstTo below ks n p.0 p.1
 
-pub least_to_all : {K : Type 0} (below : K → K → Bool) (ks : List (Option K)) (n : ℕ) (r : Option (K × ℕ)) → length ks ≤ n → LeastTo below ks n r → Least below ks r
-least_to_all below ks n None le h = λ d. ⊎_elim (λ lt. h d lt) (λ ge. get_or_past ks d None (omega arith)) (cases_lt d n)
-least_to_all below ks n (Some p) le h = record {
-  waits = h.waits;
-  none_below = λ d j e. ⊎_elim (λ lt. h.none_below d j lt e) (λ ge. none≢some (sym (get_or_past ks d None (omega arith)) ∙ e)) (cases_lt d n);
-  first = h.first;
-}
-
 -- nothing waits at n
 pub least_to_skip : {K : Type 0} (below : K → K → Bool) (ks : List (Option K)) (n : ℕ) (r : Option (K × ℕ)) → get_or ks n None ≡ None → LeastTo below ks n r → LeastTo below ks (n + 1) r
 least_to_skip below ks n None e h = λ d lt. ⊎_elim (λ l. h d l) (λ ge. let q : d ≡ n = omega arith in ap (λ i. get_or ks i None) q ∙ e) (cases_lt d n)
@@ -48,7 +40,7 @@ module _ {K : Type 0} {kind : Kind K} (laws : Laws kind) where
 
   -- not below one that is not below
   not_below : (a b c : K) → below a b ≡ true → below c b ≡ false → below c a ≡ false
-  not_below a b c ab cb = ⊎_elim (λ t. absurd (both_ways (below c b) cb (laws.trans c a b t ab))) (λ f. f) (cases_Bool (below c a))
+  not_below a b c ab cb = le_trans laws a b c (weaken laws a b ab) cb
 
   below_rest : (a b c : K) → below a b ≡ true → below c b ≡ false → below a c ≡ true
   below_rest a b c ab cb =
@@ -79,13 +71,6 @@ module _ {K : Type 0} {kind : Kind K} (laws : Laws kind) where
         first = h.first;
       }))
       (cases_Bool (below k p.0))
-
-pub cleared : {K : Type 0} (ks xs : List (Option K)) → length ks ≡ length xs → ((k : ℕ) → k < length xs → get_or ks k None ≡ None) → ks ≡ replicate (length xs) None
-cleared ks xs e h = ext_get_or None ks (replicate (length xs) None) (e ∙ sym (length-replicate (length xs) None)) (λ i lt. let l : i < length xs = omega arith in h i l ∙ sym (get_or-replicate (length xs) i None None l))
-
-pub wipe_more : {K : Type 0} (ks xs : List (Option K)) (i : ℕ) → length ks ≡ length xs → i < length ks → ((k : ℕ) → k < i → get_or ks k None ≡ None) → (length (set ks i None) ≡ length xs) × ((k : ℕ) → k < i + 1 → get_or (set ks i None) k None ≡ None)
-wipe_more ks xs i e lt h =
-    (length-set ks i None ∙ e, below_more (λ k. get_or (set ks i None) k None ≡ None) i (λ k l. let ne : k ≢ i = omega arith in get_or-set_other ks i k None None ne ∙ h k l) (get_or-set_same ks i None None lt))
 
 -- one answer only
 pub first_unique : {K : Type 0} (below : K → K → Bool) (ks : List (Option K)) (k k' : K) (c c' : ℕ) → FirstLeast below ks k c → FirstLeast below ks k' c' → c ≡ c'

@@ -3,7 +3,7 @@
 
 mod row;
 
-ghost use Rattle.std.specs.Prelude.{◌≡◌, ℕ, List, length, replicate, None, Option};
+ghost use Rattle.std.specs.Prelude.{◌≡◌, ◌∷◌, ℕ, List, length, replicate, None, Option};
 ghost use Rattle.queue.specs.Waits.{put_answer, put_in, Least, taken};
 
 use network::{Cost, Refusal};
@@ -61,7 +61,7 @@ impl<'a, Q: Queue> Queue for &'a mut Q {
 
     ghost ok = { λ s. Q.Queue.ok s.now };
 
-    ghost lender = { λ s. Q.Queue.lender s.now };
+    ghost lender = { λ s. s.ghost_name ∷ Q.Queue.lender s.now };
 
     fn capacity(&self) -> usize {
         (**self).capacity()

@@ -1,5 +1,5 @@
 -- A fresh district's costs, and a plan tried by what `plan` left. Assumes nothing.
-use Rattle.std.proofs.Common.{◌≡◌, ℕ, ◌≤◌, min, Bool, true, false, cond, ◌&&◌, ltb, leb, List, [], length, Ok, Err, vec_items, Option, Result, sym, refl, ap, ◌∙◌, subst, arith, MatchResult}
+use Rattle.std.proofs.Common.{◌≡◌, ℕ, ◌≤◌, min, Bool, true, false, cond, ◌&&◌, ltb, leb, List, [], length, Some, Ok, Err, vec_items, Option, Result, sym, refl, ap, ◌∙◌, subst, arith, MatchResult}
 use Rattle.std.proofs.lemmas.Result.{MatchResult-weaker}
 use Rattle.std.proofs.lemmas.Bool.Decides.{nat_tests}
 use Rattle.network.specs.Costs.{Kind}
@@ -21,8 +21,18 @@ use Rattle.search.specs.Planning.{questions, then_ask, Carried}
 use Rattle.search.specs.Promise.{Right}
 use Rattle.replay.specs.declared.turn.Allowance.{Allowance}
 use Rattle.replay.specs.declared.turn.Turn.{Turn}
-use Rattle.replay.specs.Calls.{Desk, allowed, planned}
-use Rattle.replay.specs.Sequence.{Sought, Asked, PlanTried}
+use Rattle.std.specs.declared.vec.Vec.{Vec}
+use Rattle.std.specs.Vec.{with_items}
+use Rattle.std.specs.Coded.{×_prop, le_prop}
+use Rattle.std.proofs.lemmas.List.{with_items_is}
+use mathlib.Core.HLevel.{is_prop→PathP}
+use native.Mathlib.Nat.{ℕ_set}
+use Rattle.district.specs.Model.{seen}
+use Rattle.replay.specs.declared.turn.Reply.{Reply}
+use Rattle.replay.specs.declared.turn.Call.{Call}
+use Rattle.replay.specs.declared.turn.Call.TheVariants.{Lay, Reprice, Close, Open, Mark, Unmark, Plan as Planning}
+use Rattle.replay.specs.Calls.{Desk, allowed}
+use Rattle.replay.specs.Sequence.{answered, Sought, Asked, Tried, PlanTried, ByCall}
 
 -- the runs of a district that was made
 abbrev runs_in : {K : Type 0} → Result (Model K) Refusal → List (Run K)
@@ -107,12 +117,49 @@ asked_refused {K} kind makes desk a l row why e =
     not_let_pass K (λ _. Sought kind makes l a.limit row row (Err (Refused why))) row (room_answer l (allowed desk a).labels (allowed desk a).queue) (cond (ltb (length row) (length l.runs)) (Err AnswerRow) (Ok (size_of l)))
     (desk.fits l.junctions (length l.outlets)) (leb l.junctions a.junctions) (size_of l) why e
 
-module _ {K : Type 0} (kind : Kind K) (makes : Layout K → (ℕ → ℕ → K) → Type 0) (desk : Desk) (a : Allowance) (said : Result (Plan K) (NoPlan K)) where
-  pub tried_by : (l l' : Layout K) (row row' : List ℕ) (t t' : Turn K) → t'.call ≡ t.call → t'.answer ≡ planned said → l ≡ l' → row ≡ vec_items t.row → row' ≡ vec_items t'.row
-      → Asked kind makes (allowed desk a) l a.limit row row' said → PlanTried kind makes desk l' a t t'
-  tried_by l l' row row' t t' c e f g h asked = record {
-    call = c;
-    said = said;
-    answer = e;
-    asked = subst (λ x. Asked kind makes (allowed desk a) l' a.limit (vec_items t.row) x said) h (subst (λ x. Asked kind makes (allowed desk a) l' a.limit x row' said) g (subst (λ x. Asked kind makes (allowed desk a) x a.limit row row' said) f asked));
-  }
+-- a list written over itself
+same_items : {X Z : Type 0} (v : Vec X Z) → with_items v v.items ≡ v
+same_items v k = record {
+  ptr = v.ptr;
+  len = v.len;
+  cap = v.cap;
+  alloc = v.alloc;
+  items = is k;
+  ok = is_prop→PathP (λ i. (v.len ≡ length (is i)) × (v.len ≤ v.cap)) (λ i. ×_prop (ℕ_set _ _) le_prop) (with_items v v.items).ok v.ok k;
+  small = v.small;
+}
+  where
+    is : (with_items v v.items).items ≡ v.items
+    is = with_items_is v v.items (sym v.ok.0)
+
+-- a call that was tried, written into its turn
+module _ {K : Type 0} (kind : Kind K) (makes : Layout K → (ℕ → ℕ → K) → Type 0) (desk : Desk) (m : Model K) (t : Turn K) (row row' : List ℕ) (reply : Result (Reply K) (NoPlan K))
+    (is-row : row ≡ vec_items t.row) (long : length row' ≡ length row) where
+  abbrev written : Turn K
+  written = record { call = t.call; answer = Some reply; row = with_items t.row row' }
+
+  by_questions : (r : Result (Reply K) (NoPlan K)) → reply ≡ r → row' ≡ row → written ≡ answered t r
+  by_questions r is kept =
+      ap (λ x. record { call = t.call; answer = Some x; row = with_items t.row row' }) is
+      ∙ ap (λ x. record { call = t.call; answer = Some r; row = with_items t.row x }) (kept ∙ is-row)
+      ∙ ap (λ x. record { call = t.call; answer = Some r; row = x }) (same_items t.row)
+
+  by_plan : (a : Allowance) → Tried kind makes desk m row row' reply (Planning a) → PlanTried kind makes desk (seen m) a t written
+  by_plan a h =
+      let filled : row' ≡ vec_items (with_items t.row row') = sym (with_items_is t.row row' (long ∙ ap length is-row ∙ sym t.row.ok.0)) in
+      record {
+        call = refl;
+        said = h.0;
+        answer = ap Some h.1;
+        asked = subst (λ x. Asked kind makes (allowed desk a) (seen m) a.limit (vec_items t.row) x h.0) filled
+            (subst (λ x. Asked kind makes (allowed desk a) (seen m) a.limit x row' h.0) is-row h.2);
+      }
+
+  pub answered_by : (call : Call K) → Tried kind makes desk m row row' reply call → ByCall kind makes desk m t written call
+  answered_by (Lay a b cost) h = by_questions _ h.0 h.1
+  answered_by (Reprice run cost) h = by_questions _ h.0 h.1
+  answered_by (Close run) h = by_questions _ h.0 h.1
+  answered_by (Open run) h = by_questions _ h.0 h.1
+  answered_by (Mark junction) h = by_questions _ h.0 h.1
+  answered_by (Unmark junction) h = by_questions _ h.0 h.1
+  answered_by (Planning a) h = by_plan a h

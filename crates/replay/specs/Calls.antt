@@ -5,11 +5,12 @@ use Rattle.network.specs.declared.refusal.Refusal.{Refusal}
 use Rattle.district.specs.Model.{Model, after_lay, after_reprice, after_close, after_open, after_mark, after_unmark}
 use Rattle.search.specs.declared.answer.Plan.{Plan}
 use Rattle.search.specs.declared.answer.NoPlan.{NoPlan}
+use Rattle.search.specs.declared.answer.NoPlan.TheVariants.{Refused}
 use Rattle.replay.specs.declared.turn.Allowance.{Allowance}
 use Rattle.replay.specs.declared.turn.Call.{Call}
 use Rattle.replay.specs.declared.turn.Call.TheVariants.{Lay, Reprice, Close, Open, Mark, Unmark, Plan as Planning}
-use Rattle.replay.specs.declared.turn.Answer.{Answer}
-use Rattle.replay.specs.declared.turn.Answer.TheVariants.{Laid, Done, Refused, Planned, NotPlanned}
+use Rattle.replay.specs.declared.turn.Reply.{Reply}
+use Rattle.replay.specs.declared.turn.Reply.TheVariants.{Laid, Done, Planned}
 
 -- what plans are lent: places for labels, codes of the queue, and which districts the estimator fits
 pub record Desk : Type 0 where
@@ -40,16 +41,16 @@ after kind m (Unmark junction) = after_unmark m junction
 after kind m (Planning allowance) = m
 
 -- the number of the run laid, or the first "no"
-abbrev pub laid : {K : Type 0} → Result ℕ Refusal → Answer K
-laid (Ok run) = Laid run
-laid (Err why) = Refused why
+abbrev pub laid : {K : Type 0} → Result ℕ Refusal → Result (Reply K) (NoPlan K)
+laid (Ok run) = Ok (Laid run)
+laid (Err why) = Err (Refused why)
 
 -- done, or the first "no"
-abbrev pub done : {K : Type 0} → Result (Unit {0}) Refusal → Answer K
-done (Ok _) = Done
-done (Err why) = Refused why
+abbrev pub done : {K : Type 0} → Result (Unit {0}) Refusal → Result (Reply K) (NoPlan K)
+done (Ok _) = Ok Done
+done (Err why) = Err (Refused why)
 
 -- the plan, or why there is none
-abbrev pub planned : {K : Type 0} → Result (Plan K) (NoPlan K) → Answer K
-planned (Ok plan) = Planned plan
-planned (Err why) = NotPlanned why
+abbrev pub planned : {K : Type 0} → Result (Plan K) (NoPlan K) → Result (Reply K) (NoPlan K)
+planned (Ok plan) = Ok (Planned plan)
+planned (Err why) = Err why

@@ -1,5 +1,5 @@
 -- The whole promise: any sequence of calls on one district, each answered as it should be. Assumes nothing.
-use Rattle.std.specs.Prelude.{◌≡◌, ℕ, List, [], ◌∷◌, length, Ok, Err, vec_items, Result, MatchResult}
+use Rattle.std.specs.Prelude.{◌≡◌, ℕ, List, [], ◌∷◌, length, Some, Ok, Err, vec_items, Result, MatchResult}
 use Rattle.network.specs.Costs.{Kind}
 use Rattle.network.specs.Layouts.{Layout}
 use Rattle.network.specs.Bounds.{Lawful}
@@ -16,13 +16,13 @@ use Rattle.search.specs.Promise.{Right}
 use Rattle.replay.specs.declared.turn.Allowance.{Allowance}
 use Rattle.replay.specs.declared.turn.Call.{Call}
 use Rattle.replay.specs.declared.turn.Call.TheVariants.{Lay, Reprice, Close, Open, Mark, Unmark, Plan as Planning}
-use Rattle.replay.specs.declared.turn.Answer.{Answer}
+use Rattle.replay.specs.declared.turn.Reply.{Reply}
 use Rattle.replay.specs.declared.turn.Turn.{Turn}
 use Rattle.replay.specs.Calls.{Desk, allowed, after, laid, done, planned}
 
 -- the same turn, with an answer
-abbrev pub answered : {K : Type 0} → Turn K → Answer K → Turn K
-answered t a = record { call = t.call; answer = a; row = t.row }
+abbrev pub answered : {K : Type 0} → Turn K → Result (Reply K) (NoPlan K) → Turn K
+answered t a = record { call = t.call; answer = Some a; row = t.row }
 
 -- a plan of the layout l within a limit, past its questions: by a lawful bound, such as the estimator makes of l, answer and row are
 -- those of the labelling, and they are right
@@ -42,11 +42,22 @@ Asked kind makes desk l limit row row' answer =
     (λ _. Sought kind makes l limit row row' answer)
     (λ why. (answer ≡ Err (Refused why)) × (row' ≡ row))
 
+-- a call on the district m: each call but a plan answers by its questions alone, and leaves the row as found
+abbrev pub Tried : {K : Type 0} → Kind K → (Layout K → (ℕ → ℕ → K) → Type 0) → Desk → Model K → List ℕ → List ℕ → Result (Reply K) (NoPlan K) → Call K → Type 0
+Tried kind makes desk m row row' reply (Lay a b cost) = (reply ≡ laid (lay_answer kind m a b cost)) × (row' ≡ row)
+Tried kind makes desk m row row' reply (Reprice run cost) = (reply ≡ done (reprice_answer kind m run cost)) × (row' ≡ row)
+Tried kind makes desk m row row' reply (Close run) = (reply ≡ done (close_answer m run)) × (row' ≡ row)
+Tried kind makes desk m row row' reply (Open run) = (reply ≡ done (open_answer m run)) × (row' ≡ row)
+Tried kind makes desk m row row' reply (Mark junction) = (reply ≡ done (mark_answer m junction)) × (row' ≡ row)
+Tried kind makes desk m row row' reply (Unmark junction) = (reply ≡ done (unmark_answer m junction)) × (row' ≡ row)
+Tried {K} kind makes desk m row row' reply (Planning allowance) =
+    (said : Result (Plan K) (NoPlan K)) × (reply ≡ planned said) × Asked kind makes (allowed desk allowance) (seen m) allowance.limit row row' said
+
 -- a plan tried within its allowance
 pub record PlanTried {K : Type 0} (kind : Kind K) (makes : Layout K → (ℕ → ℕ → K) → Type 0) (desk : Desk) (l : Layout K) (allowance : Allowance) (t t' : Turn K) : Type 0 where
   pub call : t'.call ≡ t.call
   pub said : Result (Plan K) (NoPlan K)
-  pub answer : t'.answer ≡ planned said
+  pub answer : t'.answer ≡ Some (planned said)
   pub asked : Asked kind makes (allowed desk allowance) l allowance.limit (vec_items t.row) (vec_items t'.row) said
 
 -- a turn on the district m before and after its call was tried: each call but a plan answers by its questions alone

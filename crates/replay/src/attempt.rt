@@ -7,45 +7,18 @@ ghost use Rattle.labelling.specs.Questions.{room_answer};
 ghost use Rattle.labelling.specs.Starts.{size_of};
 ghost use Rattle.labelling.specs.Tables.{standing};
 ghost use Rattle.search.specs.Planning.{then_ask};
-ghost use Rattle.replay.specs.Calls.{desk, allowed, after, laid, done, planned};
-ghost use Rattle.replay.specs.Sequence.{Asked, Answered};
+ghost use Rattle.replay.specs.Calls.{desk, allowed, after};
+ghost use Rattle.replay.specs.Sequence.{Asked, Tried};
 
-use crate::turn::{Allowance, Answer, Call, Turn};
+use crate::turn::{Allowance, Call, Reply};
 use district::district::District;
 use district::view::View;
 use estimate::Estimator;
 use labelling::{Label, Size, Way, room};
-use network::{Cost, Refusal, RunNumber};
+use network::{Cost, Refusal};
 use queue::Queue;
 use search::plan::plan;
 use search::{NoPlan, Plan};
-
-fn laid<K: Cost>(res: Result<RunNumber, Refusal>) -> Answer<K>
-    ensures { result ≡ laid res }
-{
-    match res {
-        Ok(run) => Answer::Laid(run),
-        Err(why) => Answer::Refused(why),
-    }
-}
-
-fn done<K: Cost>(res: Result<(), Refusal>) -> Answer<K>
-    ensures { result ≡ done res }
-{
-    match res {
-        Ok(()) => Answer::Done,
-        Err(why) => Answer::Refused(why),
-    }
-}
-
-fn planned<K: Cost>(res: Result<Plan<K>, NoPlan<K>>) -> Answer<K>
-    ensures { result ≡ planned res }
-{
-    match res {
-        Ok(plan) => Answer::Planned(plan),
-        Err(why) => Answer::NotPlanned(why),
-    }
-}
 
 // The questions that an allowance can answer otherwise than what is lent: 13, 14, 15 and 16.
 fn ask_within<K: Cost>(
@@ -82,48 +55,54 @@ fn try_plan<Q: Queue, E: Estimator<Cost = Q::Cost>>(
 {
     let places = labels.len().min(ways.len()).min(allowance.labels);
     let codes = (*queue).capacity().min(allowance.codes);
-    match ask_within(view, places, codes, allowance.junctions) {
-        Ok(_) => plan(view, allowance.limit, labels, ways, queue, estimator, row),
-        Err(why) => Err(NoPlan::Refused(why)),
-    }
+    ask_within(view, places, codes, allowance.junctions)?;
+    plan(view, allowance.limit, labels, ways, queue, estimator, row)
 }
 
-// The call of a turn, tried on the district; its answer is written into the turn.
+// A call, tried on the district. A plan writes into the row.
 pub(crate) fn try_call<Q: Queue, E: Estimator<Cost = Q::Cost>>(
     district: &mut District<Q::Cost>,
-    turn: &mut Turn<Q::Cost>,
+    call: Call<Q::Cost>,
     labels: &mut [Label<Q::Cost>],
     ways: &mut [Way],
     queue: &mut Q,
     estimator: &mut E,
-)
+    row: &mut [u8],
+) -> Result<Reply<Q::Cost>, NoPlan<Q::Cost>>
     requires { Priced Q.Cost.Cost.kind (model_of district.old).runs }
     ensures prices { Priced Q.Cost.Cost.kind (model_of district.new).runs }
-    ensures writes { model_of district.new ≡ after Q.Cost.Cost.kind (model_of district.old) turn.old.call }
-    ensures answers { Answered Q.Cost.Cost.kind E.makes (desk (length labels.old) (length ways.old) (length (Q.waiting queue.old)) (E.within estimator.old)) (model_of district.old) turn.old turn.new }
+    ensures writes { model_of district.new ≡ after Q.Cost.Cost.kind (model_of district.old) call }
+    ensures answers { Tried Q.Cost.Cost.kind E.makes (desk (length labels.old) (length ways.old) (length (Q.waiting queue.old)) (E.within estimator.old)) (model_of district.old) row.old row.new result call }
     ensures lends { E.Estimator.lender estimator.new ≡ E.Estimator.lender estimator.old }
     ensures stands { standing (Q.Queue.lender queue.new) (Q.waiting queue.new) ≡ standing (Q.Queue.lender queue.old) (Q.waiting queue.old) }
     ensures room { E.within estimator.new ≡ E.within estimator.old }
 {
-    match turn.call {
-        Call::Lay { a, b, cost } => turn.answer = laid(district.lay(a, b, cost)),
-        Call::Reprice { run, cost } => turn.answer = done(district.reprice(run, cost)),
-        Call::Close { run } => turn.answer = done(district.close(run)),
-        Call::Open { run } => turn.answer = done(district.open(run)),
-        Call::Mark { junction } => turn.answer = done(district.mark(junction)),
-        Call::Unmark { junction } => turn.answer = done(district.unmark(junction)),
+    match call {
+        Call::Lay { a, b, cost } => Ok(Reply::Laid(district.lay(a, b, cost)?)),
+        Call::Reprice { run, cost } => {
+            district.reprice(run, cost)?;
+            Ok(Reply::Done)
+        }
+        Call::Close { run } => {
+            district.close(run)?;
+            Ok(Reply::Done)
+        }
+        Call::Open { run } => {
+            district.open(run)?;
+            Ok(Reply::Done)
+        }
+        Call::Mark { junction } => {
+            district.mark(junction)?;
+            Ok(Reply::Done)
+        }
+        Call::Unmark { junction } => {
+            district.unmark(junction)?;
+            Ok(Reply::Done)
+        }
         Call::Plan(allowance) => {
             let view = district.view();
-            let result = try_plan(
-                &view,
-                allowance,
-                labels,
-                ways,
-                queue,
-                estimator,
-                &mut turn.row,
-            );
-            turn.answer = planned(result);
+            let plan = try_plan(&view, allowance, labels, ways, queue, estimator, row)?;
+            Ok(Reply::Planned(plan))
         }
     }
 }

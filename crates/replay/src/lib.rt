@@ -6,4 +6,4 @@ mod sequence;
 mod turn;
 
 pub use sequence::replay;
-pub use turn::{Allowance, Answer, Call, Turn};
+pub use turn::{Allowance, Call, Reply, Turn};

@@ -28,8 +28,17 @@ fn try_all<Q: Queue, E: Estimator<Cost = Q::Cost>>(
     ensures stands { standing (Q.Queue.lender queue.new) (Q.waiting queue.new) ≡ standing (Q.Queue.lender queue.old) (Q.waiting queue.old) }
     ensures room { E.within estimator.new ≡ E.within estimator.old }
 {
-    for i in 0..turns.len() {
-        try_call(district, &mut turns[i], labels, ways, queue, estimator);
+    for turn in turns.iter_mut() {
+        let answer = try_call(
+            district,
+            turn.call,
+            labels,
+            ways,
+            queue,
+            estimator,
+            &mut turn.row,
+        );
+        turn.answer = Some(answer);
     }
 }
 
@@ -49,10 +58,7 @@ pub fn replay<Q: Queue, E: Estimator<Cost = Q::Cost>>(
     ensures stands { standing (Q.Queue.lender queue.new) (Q.waiting queue.new) ≡ standing (Q.Queue.lender queue.old) (Q.waiting queue.old) }
     ensures room { E.within estimator.new ≡ E.within estimator.old }
 {
-    let mut district = match District::make(junctions, memory) {
-        Ok(district) => district,
-        Err(unmade) => return Err(unmade),
-    };
+    let mut district = District::make(junctions, memory)?;
     try_all(&mut district, turns, labels, ways, queue, estimator);
     Ok(district.into_memory())
 }

@@ -1,5 +1,5 @@
 // A call with the place for its answer.
-use network::{Refusal, RunNumber};
+use network::RunNumber;
 use search::{NoPlan, Plan};
 
 // What a plan may take: so many turns, and of what is lent so many places for labels, codes of the queue, and junctions
@@ -23,22 +23,20 @@ pub enum Call<K> {
     Plan(Allowance),
 }
 
-#[derive(Drop)]
-pub enum Answer<K> {
-    // The call has not been tried.
-    Untried,
+// What a call that was taken answers.
+#[derive(Clone, Copy)]
+pub enum Reply<K> {
     // The number of the run laid.
     Laid(RunNumber),
     Done,
-    Refused(Refusal),
     Planned(Plan<K>),
-    NotPlanned(NoPlan<K>),
 }
 
 // One call of a sequence. A plan writes into its row a byte for each run laid, 1 if it belongs to the network.
 #[derive(Drop)]
 pub struct Turn<K> {
     pub call: Call<K>,
-    pub answer: Answer<K>,
+    // None where the call has not been tried.
+    pub answer: Option<Result<Reply<K>, NoPlan<K>>>,
     pub row: Vec<u8>,
 }

@@ -14,17 +14,15 @@ use Rattle.search.specs.Drawing.{turn_of, Settled, Leads, Falls}
 
 -- the other end, as the code finds it
 module _ {K : Type 0} where
-  pub far_there : (runs : List (Run K)) (i v : ℕ) (x : Run K) → i < length runs → x ≡ get_or runs i x → x.a ≡ v → x.b ≡ far_end runs i v
-  far_there [] i v x lt is e = absurd (omega arith)
-  far_there (y ∷ ys) zero v x lt is e =
-      ap (λ (z : Run K). z.b) is ∙ sym (cond-true _ _ _ (eq-eqb y.a v (ap (λ (z : Run K). z.a) (sym is) ∙ e)))
-  far_there (y ∷ ys) (suc i) v x lt is e = far_there ys i v x (omega arith) is e
+  pub far_there : (runs : List (Run K)) (i v : ℕ) (d : Run K) → i < length runs → (get_or runs i d).a ≡ v → (get_or runs i d).b ≡ far_end runs i v
+  far_there [] i v d lt e = absurd (omega arith)
+  far_there (y ∷ ys) zero v d lt e = sym (cond-true _ _ _ (eq-eqb y.a v e))
+  far_there (y ∷ ys) (suc i) v d lt e = far_there ys i v d (omega arith) e
 
-  pub far_back : (runs : List (Run K)) (i v : ℕ) (x : Run K) → i < length runs → x ≡ get_or runs i x → (x.a ≡ v → ⊥) → x.a ≡ far_end runs i v
-  far_back [] i v x lt is n = absurd (omega arith)
-  far_back (y ∷ ys) zero v x lt is n =
-      ap (λ (z : Run K). z.a) is ∙ sym (cond-false _ _ _ (ne_eqb y.a v (λ e. n (ap (λ (z : Run K). z.a) is ∙ e))))
-  far_back (y ∷ ys) (suc i) v x lt is n = far_back ys i v x (omega arith) is n
+  pub far_back : (runs : List (Run K)) (i v : ℕ) (d : Run K) → i < length runs → ((get_or runs i d).a ≡ v → ⊥) → (get_or runs i d).a ≡ far_end runs i v
+  far_back [] i v d lt n = absurd (omega arith)
+  far_back (y ∷ ys) zero v d lt n = sym (cond-false _ _ _ (ne_eqb y.a v n))
+  far_back (y ∷ ys) (suc i) v d lt n = far_back ys i v d (omega arith) n
 
 module _ {K : Type 0} (size : Size) (runs : List (Run K)) (ways : List Way) where
   pub code_inside : (v I : ℕ) → Settled size runs ways v I → codes size ≤ length ways → code_of size v I < length ways

@@ -1,5 +1,5 @@
 -- A plan, by what its steps left. Assumes nothing.
-use Rattle.std.proofs.Common.{◌≡◌, ℕ, zero, suc, ◌+◌, ◌-◌, ◌<◌, ◌≤◌, Bool, true, false, cond, eqb, ltb, ◌⊎◌, List, [], ◌∷◌, length, get_or, take, Some, None, Ok, Err, Result, sym, refl, ap, ◌∙◌, subst, inl, inr, arith, MatchResult}
+use Rattle.std.proofs.Common.{◌≡◌, ℕ, zero, suc, ◌+◌, ◌-◌, ◌<◌, ◌≤◌, Bool, true, false, cond, eqb, ltb, ◌⊎◌, List, [], ◌∷◌, length, get_or, take, drop, replicate, ◌++◌, Some, None, Ok, Err, Result, sym, refl, ap, ◌∙◌, subst, inl, inr, arith, MatchResult}
 use lib.Bits.{or_disjoint}
 use Rattle.std.proofs.lemmas.List.{get_or-take, length-take-le}
 use Rattle.std.proofs.lemmas.Bool.{cases_Bool, cond-true, cond-false, eq-eqb, ne_eqb, eqb-true, eqb-false, ltb-false}
@@ -39,6 +39,10 @@ err≢ok e = absurd (let z : ◌≡◌ {A = ℕ} 0 1 = cc in omega arith)
 above_zero : (n : ℕ) → (n ≡ 0 → ⊥) → 0 < n
 above_zero zero h = absurd (h refl)
 above_zero (suc n) h = omega arith
+
+-- the first n places filled with one number
+pub filled : (n x : ℕ) (row part : List ℕ) → n ≤ length row → part ≡ replicate (length (take n row)) x → part ++ drop n row ≡ wiped n x row
+filled n x row part le is-part = ap (λ p. p ++ drop n row) (is-part ∙ ap (λ k. replicate k x) (length-take-le n row le))
 
 -- what the questions found
 pub record Passed {K : Type 0} (l : Layout K) (places capacity : ℕ) (fits : Bool) (row : ℕ) (size : Size) : Type 0 where
@@ -142,9 +146,6 @@ module _ {K : Type 0} (kind : Kind K) (l : Layout K) (x : Labelled K) (row : Lis
 
 -- the search that finished, as the code draws it
 module _ {K : Type 0} (kind : Kind K) (l : Layout K) (t : Tables K) (count : ℕ) (size : Size) (from : ℕ) (is-size : size ≡ size_of l) (is_from : from ≡ root l) where
-  pub finish_falls : Drawable l t count → Falls size l.runs t.ways
-  finish_falls d = subst (λ s. Falls s l.runs t.ways) (sym is-size) d.falls
-
   pub finish_settled : Drawable l t count → Settled size l.runs t.ways from (size.sets - 1)
   finish_settled d =
       subst (λ (s : Size). Settled s l.runs t.ways from (s.sets - 1)) (sym is-size)

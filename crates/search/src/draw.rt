@@ -2,27 +2,19 @@
 ghost use Rattle.std.specs.Prelude.{◌≡◌, ℕ, ◌-◌, ◌<◌, ◌≤◌, length, set as put_at};
 ghost use Rattle.labelling.specs.Tables.{codes};
 ghost use Rattle.optimal.specs.Drawing.{far_end, back_of, drawn};
-ghost use Rattle.search.specs.Drawing.{turn_of, Settled, Falls};
+ghost use Rattle.search.specs.Drawing.{turn_of, Settled, Falls, Falls-prop};
 
 use labelling::{Back, Size, Way};
 use network::{Cost, Junction, Run, RunNumber};
 
-// The other end of a run, seen from `v`.
-fn far_end<K: Cost>(runs: &[Run<K>], number: RunNumber, v: Junction) -> Junction
-    requires { number < length runs.now }
-    ensures { result ≡ far_end runs.now number v }
-{
-    let run = runs[number as usize];
-    if run.a == v { run.b } else { run.a }
-}
-
-// The way back of the label of `v` and `set`.
-fn way_back<K: Cost>(ways: &[Way], runs: &[Run<K>], size: Size, v: Junction, set: u16) -> Back
-    requires long { codes size ≤ length ways.now }
-    requires settled { Settled size runs.now ways.now v set }
-    ensures { result ≡ back_of size runs.now ways.now v set }
-{
-    ways[size.code(v, set)].back
+// What a network is drawn from: the ways back, and the runs that they go along.
+#[derive(Drop)]
+pub(crate) struct Drawing<'d, K> {
+    pub size: Size,
+    pub runs: &'d [Run<K>],
+    pub ways: &'d [Way],
+    ghost long: { codes size ≤ length ways.now },
+    ghost falls: { Falls size runs.now ways.now } by { Falls-prop size runs.now ways.now },
 }
 
 // The run belongs to the network.
@@ -33,57 +25,57 @@ fn mark(answer: &mut [u8], number: RunNumber)
     answer[number as usize] = 1;
 }
 
-// A branch, run by run until a fork or its end.
-#[cycle(draw_branch_draw_fork)]
-pub(crate) fn draw_branch<K: Cost>(
-    ways: &[Way],
-    runs: &[Run<K>],
-    size: Size,
-    from: Junction,
-    set: u16,
-    answer: &mut [u8],
-)
-    requires falls { Falls size runs.now ways.now }
-    requires long { codes size ≤ length ways.now }
-    requires room { length runs.now ≤ length answer.old }
-    requires settled { Settled size runs.now ways.now from set }
-    ensures { (n : ℕ) → turn_of size runs.now ways.now from set < n → answer.new ≡ drawn size runs.now ways.now n from set answer.old }
-{
-    let mut v = from;
-    loop {
-        match way_back(ways, runs, size, v, set) {
-            Back::Start => return,
-            Back::Run(number) => {
-                mark(answer, number);
-                v = far_end(runs, number, v);
-            }
-            Back::Fork(part) => {
-                draw_fork(ways, runs, size, v, set, part, answer);
-                return;
+impl<K: Cost> Drawing<'_, K> {
+    // The other end of a run, seen from `v`.
+    fn far_end(&self, number: RunNumber, v: Junction) -> Junction
+        requires { number < length self.now.runs.now }
+        ensures { result ≡ far_end self.now.runs.now number v }
+    {
+        let run = self.runs[number as usize];
+        if run.a == v { run.b } else { run.a }
+    }
+
+    // The way back of the label of `v` and `set`.
+    fn way_back(&self, v: Junction, set: u16) -> Back
+        requires { Settled self.now.size self.now.runs.now self.now.ways.now v set }
+        ensures { result ≡ back_of self.now.size self.now.runs.now self.now.ways.now v set }
+    {
+        self.ways[self.size.code(v, set)].back
+    }
+
+    // Marks a branch, run by run until a fork or its end.
+    #[cycle(branch_fork)]
+    pub(crate) fn mark_branch(&self, from: Junction, set: u16, answer: &mut [u8])
+        requires room { length self.now.runs.now ≤ length answer.old }
+        requires settled { Settled self.now.size self.now.runs.now self.now.ways.now from set }
+        ensures { (n : ℕ) → turn_of self.now.size self.now.runs.now self.now.ways.now from set < n → answer.new ≡ drawn self.now.size self.now.runs.now self.now.ways.now n from set answer.old }
+    {
+        let mut v = from;
+        loop {
+            match self.way_back(v, set) {
+                Back::Start => return,
+                Back::Run(number) => {
+                    mark(answer, number);
+                    v = self.far_end(number, v);
+                }
+                Back::Fork(part) => {
+                    self.mark_fork(v, set, part, answer);
+                    return;
+                }
             }
         }
     }
-}
 
-// The two branches of a fork: that of the noted set, and that of the other outlets.
-#[cycle(draw_branch_draw_fork)]
-fn draw_fork<K: Cost>(
-    ways: &[Way],
-    runs: &[Run<K>],
-    size: Size,
-    v: Junction,
-    set: u16,
-    part: u16,
-    answer: &mut [u8],
-)
-    requires falls { Falls size runs.now ways.now }
-    requires long { codes size ≤ length ways.now }
-    requires room { length runs.now ≤ length answer.old }
-    requires inside { part ≤ set }
-    requires noted { Settled size runs.now ways.now v part }
-    requires other { Settled size runs.now ways.now v (set - part) }
-    ensures { (n : ℕ) → turn_of size runs.now ways.now v part < n → turn_of size runs.now ways.now v (set - part) < n → answer.new ≡ drawn size runs.now ways.now n v (set - part) (drawn size runs.now ways.now n v part answer.old) }
-{
-    draw_branch(ways, runs, size, v, part, answer);
-    draw_branch(ways, runs, size, v, set - part, answer);
+    // The two branches of a fork: that of the noted set, and that of the other outlets.
+    #[cycle(branch_fork)]
+    fn mark_fork(&self, v: Junction, set: u16, part: u16, answer: &mut [u8])
+        requires room { length self.now.runs.now ≤ length answer.old }
+        requires inside { part ≤ set }
+        requires noted { Settled self.now.size self.now.runs.now self.now.ways.now v part }
+        requires other { Settled self.now.size self.now.runs.now self.now.ways.now v (set - part) }
+        ensures { (n : ℕ) → turn_of self.now.size self.now.runs.now self.now.ways.now v part < n → turn_of self.now.size self.now.runs.now self.now.ways.now v (set - part) < n → answer.new ≡ drawn self.now.size self.now.runs.now self.now.ways.now n v (set - part) (drawn self.now.size self.now.runs.now self.now.ways.now n v part answer.old) }
+    {
+        self.mark_branch(v, part, answer);
+        self.mark_branch(v, set - part, answer);
+    }
 }

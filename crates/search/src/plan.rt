@@ -7,16 +7,16 @@ ghost use Rattle.labelling.specs.declared.kinds.Outcome.TheVariants.{Finished};
 ghost use Rattle.labelling.specs.Starts.{size_of, wiped};
 ghost use Rattle.labelling.specs.Tables.{tables, codes, code_of, standing};
 ghost use Rattle.optimal.specs.Drawing.{drawn};
-ghost use Rattle.search.specs.Drawing.{turn_of, Settled, Falls};
+ghost use Rattle.search.specs.Drawing.{turn_of, Settled};
 ghost use Rattle.search.specs.Planning.{questions, concluded, Carried, Drawable};
 ghost use Rattle.search.specs.Promise.{Right};
 
 use crate::answer::{NoPlan, Plan};
-use crate::draw::draw_branch;
+use crate::draw::Drawing;
 use district::view::View;
 use estimate::Estimator;
 use labelling::{Ending, Label, Outcome, Size, Way, label_view, room};
-use network::{Cost, Junction, Refusal, Run};
+use network::{Cost, Junction, Refusal};
 use queue::Queue;
 
 // Questions 13 to 17, in their order.
@@ -39,39 +39,25 @@ fn ask<K: Cost>(
     Ok(size)
 }
 
-// A byte of 0 for each of the first `count` runs.
-fn wipe(answer: &mut [u8], count: usize)
-    requires { count ≤ length answer.old }
-    ensures { answer.new ≡ wiped count 0 answer.old }
-{
-    for i in 0..count {
-        answer[i] = 0;
-    }
-}
-
 // The cost of the root with all others, and its runs drawn into the answer row.
 fn finish<K: Cost>(
     labels: &[Label<K>],
-    ways: &[Way],
-    size: Size,
-    runs: &[Run<K>],
+    drawing: &Drawing<'_, K>,
     root: Junction,
     turns: u32,
     answer: &mut [u8],
 ) -> Plan<K>
-    requires falls { Falls size runs.now ways.now }
-    requires settled { Settled size runs.now ways.now root (size.sets - 1) }
-    requires turns { turn_of size runs.now ways.now root (size.sets - 1) ≤ turns }
-    requires labels { codes size ≤ length labels.now }
-    requires ways { codes size ≤ length ways.now }
-    requires room { length runs.now ≤ length answer.old }
-    ensures cost { (d : _) → result ≡ record { cost = (slice_index_or labels.now (code_of size root (size.sets - 1)) d).cost; count = turns } }
-    ensures row { answer.new ≡ drawn size runs.now ways.now (suc turns) root (size.sets - 1) (wiped (length runs.now) 0 answer.old) }
+    requires settled { Settled drawing.now.size drawing.now.runs.now drawing.now.ways.now root (drawing.now.size.sets - 1) }
+    requires turns { turn_of drawing.now.size drawing.now.runs.now drawing.now.ways.now root (drawing.now.size.sets - 1) ≤ turns }
+    requires labels { codes drawing.now.size ≤ length labels.now }
+    requires room { length drawing.now.runs.now ≤ length answer.old }
+    ensures cost { (d : _) → result ≡ record { cost = (slice_index_or labels.now (code_of drawing.now.size root (drawing.now.size.sets - 1)) d).cost; count = turns } }
+    ensures row { answer.new ≡ drawn drawing.now.size drawing.now.runs.now drawing.now.ways.now (suc turns) root (drawing.now.size.sets - 1) (wiped (length drawing.now.runs.now) 0 answer.old) }
 {
-    let all = size.sets - 1;
-    wipe(answer, runs.len());
-    draw_branch(ways, runs, size, root, all, answer);
-    let label = labels[size.code(root, all)];
+    let all = drawing.size.sets - 1;
+    answer[..drawing.runs.len()].fill(0);
+    drawing.mark_branch(root, all, answer);
+    let label = labels[drawing.size.code(root, all)];
     Plan {
         cost: label.cost,
         count: turns,
@@ -97,7 +83,7 @@ fn conclude<K: Cost>(
 {
     let outlets = view.outlets;
     if outlets.count == 1 {
-        wipe(answer, view.runs.len());
+        answer[..view.runs.len()].fill(0);
         return Ok(Plan {
             cost: K::zero(),
             count: 0,
@@ -106,15 +92,14 @@ fn conclude<K: Cost>(
     match ending.outcome {
         Outcome::NoneWaits => Err(NoPlan::Unjoined(ending.turns)),
         Outcome::Stopped(floor) => Err(NoPlan::Stopped(ending.turns, floor)),
-        Outcome::Finished => Ok(finish(
-            labels,
-            ways,
-            size,
-            view.runs,
-            outlets.places[0],
-            ending.turns,
-            answer,
-        )),
+        Outcome::Finished => {
+            let drawing = Drawing {
+                size,
+                runs: view.runs,
+                ways,
+            };
+            Ok(finish(labels, &drawing, outlets.places[0], ending.turns, answer))
+        }
     }
 }
 
@@ -147,13 +132,8 @@ pub fn plan<Q: Queue, E: Estimator<Cost = Q::Cost>>(
 {
     let places = labels.len().min(ways.len());
     let fits = (*estimator).fits(view.junctions as usize, view.outlets.count as usize);
-    let size = match ask(view, places, (*queue).capacity(), fits, answer.len()) {
-        Ok(size) => size,
-        Err(why) => return Err(NoPlan::Refused(why)),
-    };
+    let size = ask(view, places, (*queue).capacity(), fits, answer.len())?;
     let _ = estimator.prepare(view);
-    match label_view(labels, ways, queue, &*estimator, view, limit) {
-        Ok(ending) => conclude(labels, ways, size, view, ending, answer),
-        Err(why) => Err(NoPlan::Refused(why)),
-    }
+    let ending = label_view(labels, ways, queue, &*estimator, view, limit)?;
+    conclude(labels, ways, size, view, ending, answer)
 }

@@ -9,28 +9,9 @@ use Rattle.text.specs.declared.command.QueueChoice.{QueueChoice}
 use Rattle.text.specs.declared.command.QueueChoice.TheVariants.{Row}
 use Rattle.text.specs.declared.command.EstimatorChoice.{EstimatorChoice}
 use Rattle.text.specs.declared.command.EstimatorChoice.TheVariants.{Silent}
-use Rattle.text.specs.Words.{words, uncommented}
-use Rattle.text.specs.Numbers.{number_of}
-
-abbrev pub Word : Type 0
-Word = List ℕ
-
-abbrev pub bind : {X Y : Type 0} → Option X → (X → Option Y) → Option Y
-bind None f = None
-bind (Some x) f = f x
-
--- the number that the first word says, and the other words
-abbrev pub first_number : List Word → Option (ℕ × List Word)
-first_number [] = None
-first_number (w ∷ ws) = bind (number_of w) (λ n. Some (n, ws))
-
-abbrev pub with_number : List Word → (ℕ → List Word → Option Command) → Option Command
-with_number ws f = bind (first_number ws) (λ p. f p.0 p.1)
-
--- a command after which no word may stand
-abbrev pub only : List Word → Command → Option Command
-only [] c = Some c
-only (w ∷ ws) c = None
+use Rattle.lines.specs.Words.{words, uncommented}
+use Rattle.lines.specs.Numbers.{number_of}
+use Rattle.lines.specs.Reading.{Word, bind, with_number, only, once, parts}
 
 -- district N CAPACITY
 abbrev pub district_of : List Word → Option Command
@@ -50,11 +31,6 @@ dug_of ws = with_number ws (λ cost vs. only vs (Call (Dug cost)))
 
 -- ---- plan [limit L] [queue row] [estimator silent], the parts in any order, each at most once
 
--- a value for what has none yet
-abbrev pub once : {X : Type 0} → Option X → Option X → Option X
-once None value = value
-once (Some x) value = None
-
 abbrev pub queue_of : Word → Option QueueChoice
 queue_of w = cond (bytes_eq w (codes "row")) (Some Row) None
 
@@ -72,16 +48,11 @@ with_part p name value =
     (bind (once p.estimator (estimator_of value)) (λ x. Some (record { limit = p.limit; queue = p.queue; estimator = Some x })))
     None))
 
-abbrev pub parts : List Word → PlanWords → Option PlanWords
-parts [] p = Some p
-parts (name ∷ []) p = None
-parts (name ∷ value ∷ ws) p = bind (with_part p name value) (parts ws)
-
 abbrev pub unsaid : PlanWords
 unsaid = record { limit = None; queue = None; estimator = None }
 
 abbrev pub plan_of : List Word → Option Command
-plan_of ws = bind (parts ws unsaid) (λ p. Some (Call (Plan p)))
+plan_of ws = bind (parts with_part ws unsaid) (λ p. Some (Call (Plan p)))
 
 -- ---- a line
 

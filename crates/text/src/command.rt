@@ -1,6 +1,6 @@
 // What a line can say.
 
-#[derive(Clone, Copy)]
+#[derive(Clone, Copy, PartialEq, Eq, Debug)]
 pub enum Command {
     // A blank line, or a comment alone.
     Nothing,
@@ -9,7 +9,7 @@ pub enum Command {
 }
 
 // What is asked of the district at hand.
-#[derive(Clone, Copy)]
+#[derive(Clone, Copy, PartialEq, Eq, Debug)]
 pub enum Call {
     Lay { a: u64, b: u64, cost: u64 },
     Mark { junction: u64 },
@@ -18,19 +18,19 @@ pub enum Call {
 }
 
 // What a line says of a plan; none where it does not say it.
-#[derive(Clone, Copy)]
+#[derive(Clone, Copy, PartialEq, Eq, Debug, Default)]
 pub struct PlanWords {
     pub limit: Option<u64>,
     pub queue: Option<QueueChoice>,
     pub estimator: Option<EstimatorChoice>,
 }
 
-#[derive(Clone, Copy)]
+#[derive(Clone, Copy, PartialEq, Eq, Debug)]
 pub enum QueueChoice {
     Row,
 }
 
-#[derive(Clone, Copy)]
+#[derive(Clone, Copy, PartialEq, Eq, Debug)]
 pub enum EstimatorChoice {
     Silent,
 }

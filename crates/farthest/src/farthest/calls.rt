@@ -1,5 +1,5 @@
 // The calls on an estimator by the farthest outlet.
-ghost use Rattle.std.specs.Prelude.{◌≡◌, ℕ, ◌+◌, ◌*◌, ◌≤◌, min, [], ◌∷◌, length, None, slice_index_or};
+ghost use Rattle.std.specs.Prelude.{◌≡◌, ℕ, ◌+◌, ◌*◌, ◌≤◌, [], ◌∷◌, length, None, slice_index_or};
 ghost use Rattle.std.specs.Option.{unwrap_or};
 ghost use Rattle.estimate.specs.Greater.{greater};
 ghost use Rattle.farthest.specs.Distances.{in_set, farthest, Far};
@@ -7,12 +7,10 @@ ghost use Rattle.farthest.specs.Memories.{in_row, bound_of, has_room, room_for, 
 
 use super::Farthest;
 use crate::settle::measure;
+use district::district::MOST_OUTLETS;
 use district::view::View;
 use estimate::Estimator;
 use network::{Cost, Junction, Refusal};
-
-// The most outlets, and so the places for each junction.
-const MOST_OUTLETS: usize = 12;
 
 impl<'m, K: Cost> Farthest<'m, K> {
     // A bound of zero, over the places that `distances` has.
@@ -33,21 +31,18 @@ impl<'m, K: Cost> Farthest<'m, K> {
 fn place_at<K: Cost>(ds: &[Option<K>], at: usize) -> Option<K>
     ensures { result ≡ slice_index_or ds.now at None }
 {
-    if at < ds.len() { ds[at] } else { None }
+    ds.get(at).copied().flatten()
 }
 
 // The greater of a cost and of what stands at a place.
 fn greater_of<K: Cost>(best: K, place: Option<K>) -> K
     ensures { result ≡ greater K.Cost.kind best (unwrap_or place K.Cost.kind.zero) }
 {
-    match place {
-        None => best,
-        Some(cost) => { if best.is_below(cost) { cost } else { best } }
-    }
+    place.map_or(best, |cost| if best.is_below(cost) { cost } else { best })
 }
 
 // Whether `set` has the j-th outlet: the root is in no set.
-fn is_in(set: u16, j: u8) -> bool
+fn is_in(set: u16, j: usize) -> bool
     requires { j ≤ 12 }
     ensures { result ≡ in_set set j }
 {
@@ -55,24 +50,17 @@ fn is_in(set: u16, j: u8) -> bool
 }
 
 // The greatest distance from `v` to one of the outlets that `set` lacks.
-fn look<K: Cost>(ds: &[Option<K>], v: Junction, set: u16, outlets: u8) -> K
+fn look<K: Cost>(ds: &[Option<K>], v: Junction, set: u16, outlets: usize) -> K
     requires { outlets ≤ 12 }
     ensures { result ≡ farthest K.Cost.kind (in_row ds.now) v set outlets }
 {
     let mut best = K::zero();
     for j in 0..outlets {
         if !is_in(set, j) {
-            best = greater_of(best, place_at(ds, v as usize * 12 + j as usize));
+            best = greater_of(best, place_at(ds, v as usize * MOST_OUTLETS + j));
         }
     }
     best
-}
-
-// Never more than the places that a junction has.
-fn few(outlets: u8) -> u8
-    ensures { result ≡ min outlets 12 }
-{
-    if outlets < 12 { outlets } else { 12 }
 }
 
 impl<'m, K: Cost> Estimator for Farthest<'m, K> {
@@ -91,17 +79,17 @@ impl<'m, K: Cost> Estimator for Farthest<'m, K> {
     }
 
     fn prepare(&mut self, view: &View<'_, K>) -> Result<(), Refusal> {
-        if !(*self).fits(view.junctions as usize, view.outlets.count as usize) {
+        if !(*self).fits(view.junctions as usize, view.outlets.len()) {
             return Err(Refusal::EstimatorFit);
         }
         self.junctions = view.junctions;
-        self.outlets = view.outlets.count;
+        self.outlets = view.outlets.len();
         measure(self.distances, view);
         Ok(())
     }
 
     fn estimate(&self, v: Junction, set: u16) -> K {
-        let outlets = few(self.outlets);
+        let outlets = self.outlets.min(MOST_OUTLETS);
         if v >= self.junctions || outlets == 0 || set >= 1 << (outlets - 1) {
             return K::zero();
         }

@@ -7,22 +7,13 @@ use super::Row;
 use crate::Queue;
 use network::{Cost, Refusal};
 
-// Nothing waits in any place.
-fn wipe<K: Cost>(places: &mut [Option<K>])
-    ensures { places.new ≡ replicate (length places.old) None }
-{
-    for i in 0..places.len() {
-        places[i] = None;
-    }
-}
-
 impl<'a, K: Cost> Row<'a, K> {
     // A queue over `places`, whatever they held: nothing waits in it.
     pub fn over(places: &'a mut [Option<K>]) -> Row<'a, K>
         ensures lends { row_lender result ≡ places.entry.ghost_name ∷ [] }
         ensures waits { row_waits result ≡ replicate (length places.old) None }
     {
-        wipe(places);
+        places.fill(None);
         Row { places }
     }
 }
@@ -31,32 +22,15 @@ impl<'a, K: Cost> Row<'a, K> {
 fn pick<K: Cost>(best: Option<(K, usize)>, cost: K, code: usize) -> Option<(K, usize)>
     ensures { result ≡ better K.Cost.kind.below best cost code }
 {
-    match best {
-        None => Some((cost, code)),
-        Some((k, c)) => {
-            if cost.is_below(k) {
-                Some((cost, code))
-            } else {
-                Some((k, c))
-            }
-        }
-    }
+    best.filter(|(least, _)| !cost.is_below(*least))
+        .or(Some((cost, code)))
 }
 
 // What waits at a code once `cost` is put there.
 fn lower<K: Cost>(old: Option<K>, cost: K) -> Option<K>
     ensures { result ≡ lowered K.Cost.kind.below old cost }
 {
-    match old {
-        None => Some(cost),
-        Some(k) => {
-            if cost.is_below(k) {
-                Some(cost)
-            } else {
-                Some(k)
-            }
-        }
-    }
+    Some(old.map_or(cost, |waiting| waiting.lesser(cost)))
 }
 
 // The first least cost of all places.
@@ -64,10 +38,9 @@ fn scan<K: Cost>(places: &[Option<K>]) -> Option<(K, usize)>
     ensures { Least K.Cost.kind.below places.now result }
 {
     let mut best = None;
-    for i in 0..places.len() {
-        let place = places[i];
-        if let Some(cost) = place {
-            best = pick(best, cost, i);
+    for (code, place) in places.iter().enumerate() {
+        if let Some(cost) = *place {
+            best = pick(best, cost, code);
         }
     }
     best
@@ -87,10 +60,11 @@ impl<'a, K: Cost> Queue for Row<'a, K> {
     }
 
     fn clear(&mut self) {
-        wipe(self.places)
+        self.places.fill(None);
     }
 
     fn put(&mut self, code: usize, cost: K) -> Result<(), Refusal> {
+        // A write through a slice's `get_mut` would leave unsaid what the other places hold.
         if code < self.places.len() {
             self.places[code] = lower(self.places[code], cost);
             Ok(())
@@ -100,7 +74,7 @@ impl<'a, K: Cost> Queue for Row<'a, K> {
     }
 
     fn least(&self) -> Option<(K, usize)> {
-        scan(&*self.places)
+        scan(self.places)
     }
 
     fn take(&mut self) -> Option<(K, usize)> {

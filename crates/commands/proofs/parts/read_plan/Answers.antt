@@ -1,14 +1,14 @@
-use Rattle.std.proofs.Common.{◌∷◌, sym, ap, ◌∙◌}
-use Rattle.commands.specs.Commands.{bind, parts}
-use Rattle.commands.specs.Words.{words}
+use Rattle.std.proofs.Common.{◌≡◌, None, rules}
+use Rattle.commands.specs.declared.command.PlanWords.{PlanWords}
+use Rattle.commands.specs.Commands.{unsaid}
 use Rattle.commands.proofs.parts.read_plan.Goals as goal
 
-pub loop-name-preserved : goal.loop-name-preserved
-loop-name-preserved c =
-    let said = c.loop-name.said in
-    let name = c.in-Some.name.now in
-    let rest = c.in-Some-next_word.left.now in
-    let first = c.in-Some.ensures.0 in
-    let second = c.in-Some-next_word.ensures.0 in
-    let part = sym c.read_part.ensures ∙ c.in_ok-said.was in
-    sym (ap (λ o. bind o (parts (words rest))) part) ∙ sym (ap (λ ws. parts (name ∷ ws) said) second) ∙ sym (ap (λ ws. parts ws said) first) ∙ c.loop-name.invariant
+-- a plan of which nothing is said
+nothing_said : (p : PlanWords) → (p.limit ≡ None) × ((p.labels ≡ None) × ((p.room ≡ None) × ((p.row ≡ None) × ((p.places ≡ None) × ((p.queue ≡ None) × (p.estimator ≡ None)))))) → p ≡ unsaid
+nothing_said p h = λ i. record { limit = h.0 i; labels = h.1.0 i; room = h.1.1.0 i; row = h.1.1.1.0 i; places = h.1.1.1.1.0 i; queue = h.1.1.1.1.1.0 i; estimator = h.1.1.1.1.1.1 i }
+
+pub returns-in_err-said : goal.returns-in_err-said
+returns-in_err-said c = let h = nothing_said c.default.result c.default.ensures in search rules
+
+pub returns : goal.returns
+returns c = let h = nothing_said c.default.result c.default.ensures in search rules

@@ -1,36 +1,13 @@
-use Rattle.std.proofs.Common.{◌≡◌, ℕ, ◌<◌, false, get_or, set, None, sym, ap, ◌∙◌, arith}
+use Rattle.std.proofs.Common.{◌≡◌, get_or, set, None, sym, ap, ◌∙◌, arith}
 use Rattle.std.proofs.lemmas.Bool.{cond-false}
 use Rattle.std.specs.List.{slice_get}
-use Rattle.heap.specs.declared.Heap.{Heap}
-use Rattle.heap.specs.Heaps.{heap_waits, stands, Sound}
+use Rattle.heap.specs.Heaps.{heap_waits}
+use Rattle.heap.specs.Places.{stands}
 use Rattle.queue.specs.Waits.{lowered}
-use Rattle.heap.proofs.Made.{made_sound, made_waits, made_but_at}
+use Rattle.heap.proofs.Made.{made_waits, made_but_at}
 use Rattle.heap.proofs.Stands.{at_waits}
-use Rattle.heap.proofs.Changes.{room_left, insert_found, insert_made, insert_but}
+use Rattle.heap.proofs.Changes.{insert_made, insert_but}
 use Rattle.heap.proofs.Heap.insert.Goals as goal
-
--- a code that does not wait leaves room
-room : {K : Type 0} (h : Heap K) (code : ℕ) → Sound h → code < h.cap → stands h.len h.codes.now h.places.now code ≡ false → h.len < h.cap
-room h code s lt away = room_left h.codes.now h.places.now h.len h.cap code lt h.room.3 h.room.2 s.found away
-
-pub append-requires : goal.append-requires
-append-requires g c = (c.requires.inside, room c.args.self.now c.args.code c.requires.good.sound c.requires.inside c.requires.waits)
-
-pub rise-requires : goal.rise-requires
-rise-requires g c =
-    let h = c.args.self.now in
-    let codes = h.codes.now in
-    let places = h.places.now in
-    let code = c.args.code in
-    let s = c.requires.good.sound in
-    let made = c.append.ensures in
-    record {
-      sound = made_sound made (omega (arith, room h code s c.requires.inside c.requires.waits))
-          (insert_found codes places h.len h.cap code c.requires.inside h.room.3 h.room.2 s.found c.requires.waits);
-      inside = omega (arith, made.lens);
-      but = made_but_at made g.K.Cost.kind.below h.len
-          (λ d. insert_but codes places h.len h.cap code c.requires.inside h.room.3 h.room.2 s.found c.requires.waits h.keys.now c.args.key g.K.Cost.kind.below d (c.requires.good.ordered d));
-    }
 
 pub returns : goal.returns
 unfolding heap_waits
@@ -49,6 +26,6 @@ returns g c =
       waits =
           c.rise.ensures.kept.waits ∙
           made_waits made ∙
-          insert_made codes places h.len h.cap code c.requires.inside h.room.3 h.room.2 c.requires.good.sound.found c.requires.waits keys key h.room.1 ∙
+          insert_made codes places h.len h.cap code c.requires.inside h.room.3 h.room.2 h.found c.requires.waits keys key h.room.1 ∙
           ap (λ o. set (heap_waits h) code (lowered g.K.Cost.kind.below o key)) (sym old);
     }

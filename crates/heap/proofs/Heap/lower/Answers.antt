@@ -3,9 +3,10 @@ use Rattle.std.proofs.lemmas.List.{set-get_or}
 use Rattle.std.proofs.lemmas.Option.{slice_get-get_or}
 use Rattle.std.proofs.lemmas.Bool.{and_parts, ltb-true, eqb-true, cond-true}
 use Rattle.std.specs.List.{slice_get}
-use Rattle.heap.specs.Heaps.{heap_waits, stands}
+use Rattle.heap.specs.Heaps.{heap_waits}
+use Rattle.heap.specs.Places.{stands}
 use Rattle.queue.specs.Waits.{lowered}
-use Rattle.heap.proofs.Made.{made_as, made_sound, made_waits, made_but_at}
+use Rattle.heap.proofs.Made.{made_as, made_waits, made_but_at}
 use Rattle.heap.proofs.Stands.{at_waits}
 use Rattle.heap.proofs.Changes.{lower_made, lower_but}
 use Rattle.heap.proofs.Heap.lower.Goals as goal
@@ -23,14 +24,12 @@ rise-requires g c =
     let room : code < length keys = omega (arith, c.requires.inside, h.room.1) in
     let parts = and_parts (ltb at h.len) (eqb (get_or codes at 0) code) c.requires.waits in
     let inside = ltb-true at h.len parts.0 in
-    let sound = c.requires.good.sound in
     record {
-      sound = made_sound made sound.within sound.found;
       inside = made_as made (λ cap n ks cs ps. at < n) inside;
       but = made_but_at made g.K.Cost.kind.below at
           (λ d.
           lower_but keys codes places h.len h.cap code key g.met.K.Cost.laws d at room
-          (sym (c.if-falls.ensures d)) sound.found inside (eqb-true (get_or codes at 0) code parts.1) (c.requires.good.ordered d));
+          (sym (c.if-falls.ensures d)) h.found inside (eqb-true (get_or codes at 0) code parts.1) (c.requires.good.ordered d));
     }
 
 pub returns-then-falls : goal.returns-then-falls

@@ -1,24 +1,9 @@
 use Rattle.std.proofs.Common.{◌≤◌, length, refl, ◌∙◌, arith}
 use Rattle.heap.specs.Heaps.{heap_waits, before}
-use Rattle.heap.proofs.Changes.{remove_found, remove_made, remove_but}
+use Rattle.heap.proofs.Changes.{remove_made, remove_but}
 use Rattle.heap.proofs.First.{taken_first, taken_none}
-use Rattle.heap.proofs.Made.{made_sound, made_waits, made_but_under}
+use Rattle.heap.proofs.Made.{made_waits, made_but_under}
 use Rattle.heap.proofs.Heap.remove_first.Goals as goal
-
-pub sink-requires : goal.sink-requires
-sink-requires g c =
-    let h = c.args.self.now in
-    let codes = h.codes.now in
-    let places = h.places.now in
-    let made = c.last_to_first.ensures in
-    let pos = c.if-self-gt0.true in
-    let coded : h.len ≤ length codes = omega (arith, c.requires.sound.within, h.room.2) in
-    let found = c.requires.sound.found in
-    record {
-      sound = made_sound made (omega (arith, c.requires.sound.within)) (remove_found codes places h.len h.cap pos h.room.3 coded found);
-      but = made_but_under made g.K.Cost.kind.below 0
-          (λ d. remove_but codes places h.len h.cap pos h.room.3 coded found (before g.K.Cost.kind.below h.keys.now d) (c.requires.ordered d));
-    }
 
 pub returns-then-self-gt0 : goal.returns-then-self-gt0
 unfolding heap_waits
@@ -28,14 +13,14 @@ returns-then-self-gt0 g c =
     let places = h.places.now in
     let made = c.last_to_first.ensures in
     let pos = c.if-self-gt0.true in
-    let coded : h.len ≤ length codes = omega (arith, c.requires.sound.within, h.room.2) in
+    let coded : h.len ≤ length codes = omega (arith, h.within, h.room.2) in
     record {
       good = c.sink.ensures.good;
       lends = c.sink.ensures.kept.lends ∙ made.lends;
       waits = λ r least.
           c.sink.ensures.kept.waits ∙
           made_waits made ∙
-          remove_made codes places h.len h.cap pos h.room.3 coded c.requires.sound.found h.keys.now ∙
+          remove_made codes places h.len h.cap pos h.room.3 coded h.found h.keys.now ∙
           taken_first g.met.K.Cost.laws h c.requires pos r least;
     }
 
@@ -43,5 +28,5 @@ pub returns-else-self-gt0 : goal.returns-else-self-gt0
 returns-else-self-gt0 g c = record {
   good = c.requires;
   lends = refl;
-  waits = λ r least. taken_none g.K.Cost.kind.below c.args.self.now c.requires.sound c.if-self-gt0.false r least;
+  waits = λ r least. taken_none g.K.Cost.kind.below c.args.self.now c.if-self-gt0.false r least;
 }

@@ -1,6 +1,6 @@
 use Rattle.std.proofs.Common.{◌<◌, false, subst, arith}
 use Rattle.heap.specs.Sifts.{Kept, Tells}
-use Rattle.heap.proofs.Made.{swap_codes, swap_sound, swap_kept}
+use Rattle.heap.proofs.Made.{swap_kept}
 use Rattle.heap.proofs.Stands.{kept_trans}
 use Rattle.heap.proofs.Steps.{at_place, rise_by, rise_end}
 use Rattle.heap.proofs.Heap.rise.Goals as goal
@@ -13,20 +13,19 @@ loop-at-preserved g c =
     let up = c.place_over-up.result in
     let inv = c.loop-at.invariant in
     let made = c.swap.ensures in
-    let over : up < h.len = omega (arith, inv.1, c.loop-at-test.true, c.place_over-up.ensures) in
-    let kept : Kept h next = swap_kept h next at up inv.0 inv.1 over made in (
-      swap_sound h next at up inv.0 inv.1 over made,
+    let over : up < h.len = omega (arith, inv.0, c.loop-at-test.true, c.place_over-up.ensures) in
+    let kept : Kept h next = swap_kept h next at up inv.0 over made in (
       omega (arith, kept.lens, over),
-      rise_by g.met.K.Cost.laws h next at up c.place_over-up.ensures c.loop-at-test.true inv.1 inv.0 (swap_codes h next at up inv.0 inv.1 over made) kept c.if-not-precedes.ensures inv.2,
-      kept_trans c.args.self.now h next inv.3 kept,
+      rise_by g.met.K.Cost.laws h next at up c.place_over-up.ensures c.loop-at-test.true inv.0 made.coded kept c.if-not-precedes.ensures inv.1,
+      kept_trans c.args.self.now h next inv.2 kept,
     )
 
 pub returns-after-loop-at : goal.returns-after-loop-at
 returns-after-loop-at g c =
     let inv = c.loop-at.invariant in
     record {
-      good = rise_end g.met.K.Cost.laws c.loop-at.self c.loop-at.at inv.0 inv.2 (λ pos. absurd (omega (arith, pos, c.loop-at-test.false)));
-      kept = inv.3;
+      good = rise_end g.met.K.Cost.laws c.loop-at.self c.loop-at.at inv.1 (λ pos. absurd (omega (arith, pos, c.loop-at-test.false)));
+      kept = inv.2;
     }
 
 pub returns-then-not-precedes : goal.returns-then-not-precedes
@@ -34,7 +33,7 @@ returns-then-not-precedes g c =
     let h = c.loop-at.self in
     let inv = c.loop-at.invariant in
     record {
-      good = rise_end g.met.K.Cost.laws h c.loop-at.at inv.0 inv.2
+      good = rise_end g.met.K.Cost.laws h c.loop-at.at inv.1
           (λ pos. subst (λ u. Tells g.K.Cost.kind.below h.keys.now (at_place h c.loop-at.at) (at_place h u) false) c.place_over-up.ensures c.if-not-precedes.ensures);
-      kept = inv.3;
+      kept = inv.2;
     }

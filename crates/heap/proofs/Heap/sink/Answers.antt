@@ -1,6 +1,6 @@
 use Rattle.std.proofs.Common.{◌+◌, ◌<◌, arith}
 use Rattle.heap.specs.Sifts.{Kept, LeastChild}
-use Rattle.heap.proofs.Made.{swap_codes, swap_sound, swap_kept}
+use Rattle.heap.proofs.Made.{swap_kept}
 use Rattle.heap.proofs.Stands.{kept_trans}
 use Rattle.heap.proofs.Steps.{chosen_least, sink_step, sink_leaf, sink_end}
 use Rattle.heap.proofs.Heap.sink.Goals as goal
@@ -16,18 +16,17 @@ loop-at-preserved g c =
     let room : at + at + 1 < h.len = omega (arith, c.loop-at-test.true) in
     let child : LeastChild g.K.Cost.kind.below h at down = chosen_least g.met.K.Cost.laws h at down room c.child-next.ensures in
     let here : at < h.len = omega (arith, room) in
-    let kept : Kept h next = swap_kept h next at down inv.0 here child.inside made in (
-      swap_sound h next at down inv.0 here child.inside made,
-      sink_step g.met.K.Cost.laws h next at down child inv.0 (swap_codes h next at down inv.0 here child.inside made) kept c.if-not-precedes.ensures inv.1,
-      kept_trans c.args.self.now h next inv.2 kept,
+    let kept : Kept h next = swap_kept h next at down here child.inside made in (
+      sink_step g.met.K.Cost.laws h next at down child made.coded kept c.if-not-precedes.ensures inv.0,
+      kept_trans c.args.self.now h next inv.1 kept,
     )
 
 pub returns-after-loop-at : goal.returns-after-loop-at
 returns-after-loop-at g c =
     let inv = c.loop-at.invariant in
     record {
-      good = sink_leaf g.met.K.Cost.laws c.loop-at.self c.loop-at.at inv.0 inv.1 c.loop-at-test.false;
-      kept = inv.2;
+      good = sink_leaf g.met.K.Cost.laws c.loop-at.self c.loop-at.at inv.0 c.loop-at-test.false;
+      kept = inv.1;
     }
 
 pub returns-then-not-precedes : goal.returns-then-not-precedes
@@ -37,6 +36,6 @@ returns-then-not-precedes g c =
     let inv = c.loop-at.invariant in
     let room : at + at + 1 < h.len = omega (arith, c.loop-at-test.true) in
     record {
-      good = sink_end g.met.K.Cost.laws h at c.child-next.result inv.0 inv.1 (chosen_least g.met.K.Cost.laws h at c.child-next.result room c.child-next.ensures) c.if-not-precedes.ensures;
-      kept = inv.2;
+      good = sink_end g.met.K.Cost.laws h at c.child-next.result inv.0 (chosen_least g.met.K.Cost.laws h at c.child-next.result room c.child-next.ensures) c.if-not-precedes.ensures;
+      kept = inv.1;
     }

@@ -1,10 +1,17 @@
-use Rattle.std.proofs.Common.{◌≡◌, length, take, sym, ◌∙◌, arith}
+use Rattle.std.proofs.Common.{◌≡◌, length, take, sym, subst, ◌∙◌, arith}
 use Rattle.std.proofs.lemmas.List.{get_or-take, length-take-le}
 use Rattle.labelling.specs.declared.kinds.Outcome.TheVariants.{Finished}
 use Rattle.labelling.specs.Tables.{tables}
 use Rattle.district.specs.Model.{layout_of}
-use Rattle.search.proofs.Plans.{concluded_else, finish_falls, finish_settled, finish_turns, finished_as}
+use Rattle.search.specs.Drawing.{Falls}
+use Rattle.search.proofs.Plans.{concluded_else, finish_settled, finish_turns, finished_as}
 use Rattle.search.proofs.plan.conclude.Goals as goal
+
+pub invariant_of-drawing : goal.invariant_of-drawing
+invariant_of-drawing g c = record {
+  long = c.requires.ways;
+  falls = subst (λ s. Falls s c.args.view.now.runs.now c.args.ways.now) (sym c.requires.size) (c.requires.drawable c.in-Finished.is).falls;
+}
 
 pub finish-requires : goal.finish-requires
 finish-requires g c =
@@ -15,11 +22,9 @@ finish-requires g c =
     let marked = c.requires.marked in
     let from = sym (get_or-take v.outlets.count v.outlets.places 0 0 (omega arith)) in
     record {
-      falls = finish_falls g.K.Cost.kind l t c.args.ending.turns c.args.size _ c.requires.size from d;
       settled = finish_settled g.K.Cost.kind l t c.args.ending.turns c.args.size _ c.requires.size from d;
       turns = finish_turns g.K.Cost.kind l t c.args.ending.turns c.args.size _ c.requires.size from d;
       labels = c.requires.labels;
-      ways = c.requires.ways;
       room = c.requires.room;
     }
 

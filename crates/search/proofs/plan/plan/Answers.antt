@@ -25,18 +25,18 @@ conclude-requires g c =
     let capacity = length (g.Q.Queue.waiting c.args.queue.now) in
     let row = length c.args.answer.now in
     let within = g.E.Estimator.within c.args.estimator.now in
-    let asked = c.in-Ok.ensures
+    let asked = c.in_ok-size.ensures
     ∙ ap (λ n. questions l n c.capacity.result c.fits-fits.result row) c.min-places.ensures
     ∙ ap (λ n. questions l places n c.fits-fits.result row) c.capacity.ensures
     ∙ ap (λ b. questions l places capacity b row) (c.fits-fits.ensures ∙ ap (within v.junctions) (sym count)) in
-    let p = passed l places capacity (within l.junctions (length l.outlets)) row c.in-Ok.size asked in
+    let p = passed l places capacity (within l.junctions (length l.outlets)) row c.in_ok-size.size asked in
     let some = p.room.marked in
     let in-labels = p.room.labels in
     let kind = g.Q.Cost.Cost.kind in
     let bound = g.E.Estimator.bound c.prepare.new.self in
     let t0 = tables c.args.labels.now c.args.ways.now in
-    let left = c.in-Ok-label_view.ensures.labels.0 in
-    let ended : Ended (rule_of kind bound l) l c.args.limit t0 (record { ending = c.in-Ok-label_view.ending; left = tables c.label_view.new.labels c.label_view.new.ways }) =
+    let left = c.in_ok-ending.ensures.labels.0 in
+    let ended : Ended (rule_of kind bound l) l c.args.limit t0 (record { ending = c.in_ok-ending.ending; left = tables c.label_view.new.labels c.label_view.new.ways }) =
     subst (Ended (rule_of kind bound l) l c.args.limit t0) (sym left)
     (labelling_ended (rule_of kind bound l) l refl (ends_from v.junctions v.runs.now v.ends) (all_within v.junctions v.outlets.count v.outlets.places fits v.inside) some t0 (omega arith) (omega arith) c.args.limit) in
     let at_root : root l < v.junctions = subst (λ x. x < v.junctions) (sym (get_or-take v.outlets.count v.outlets.places 0 0 (omega arith))) (v.inside 0 (omega arith)) in
@@ -49,11 +49,11 @@ conclude-requires g c =
       labels = subst (λ s. codes s ≤ length c.label_view.new.labels) (sym p.room.is) (omega arith);
       ways = subst (λ s. codes s ≤ length c.label_view.new.ways) (sym p.room.is) (omega arith);
       room = p.answer;
-      drawable = λ fin. drawable_by kind bound l c.args.limit t0 (record { ending = c.in-Ok-label_view.ending; left = tables c.label_view.new.labels c.label_view.new.ways }) at_root (omega arith) ended fin;
+      drawable = λ fin. drawable_by kind bound l c.args.limit t0 (record { ending = c.in_ok-ending.ending; left = tables c.label_view.new.labels c.label_view.new.ways }) at_root (omega arith) ended fin;
     }
 
-pub returns-in-Ok-label_view : goal.returns-in-Ok-label_view
-returns-in-Ok-label_view g c =
+pub returns : goal.returns
+returns g c =
     let v = c.args.view.now in
     let l = layout_of v in
     let few = v.outlets.few in
@@ -64,13 +64,13 @@ returns-in-Ok-label_view g c =
     let capacity = length (g.Q.Queue.waiting c.args.queue.now) in
     let row = length c.args.answer.now in
     let within = g.E.Estimator.within c.args.estimator.now in
-    let asked = c.in-Ok.ensures
+    let asked = c.in_ok-size.ensures
     ∙ ap (λ n. questions l n c.capacity.result c.fits-fits.result row) c.min-places.ensures
     ∙ ap (λ n. questions l places n c.fits-fits.result row) c.capacity.ensures
     ∙ ap (λ b. questions l places capacity b row) (c.fits-fits.ensures ∙ ap (within v.junctions) (sym count)) in
-    let p = passed l places capacity (within l.junctions (length l.outlets)) row c.in-Ok.size asked in
+    let p = passed l places capacity (within l.junctions (length l.outlets)) row c.in_ok-size.size asked in
     let ready = c.prepare.ensures.answers ∙ cond-true (within l.junctions (length l.outlets)) _ _ p.estimator in
-    let done = c.in-Ok-label_view.ensures.labels in
+    let done = c.in_ok-ending.ensures.labels in
     let kind = g.Q.Cost.Cost.kind in
     let bound = g.E.Estimator.bound c.prepare.new.self in
     let t0 = tables c.args.labels.now c.args.ways.now in
@@ -79,9 +79,9 @@ returns-in-Ok-label_view g c =
     let is-left = ap (λ (x : Labelled _). x.left) done.0 in
     record {
       lends = c.prepare.ensures.lends;
-      stands = c.in-Ok-label_view.ensures.lends;
+      stands = c.in_ok-ending.ensures.lends;
       room = c.prepare.ensures.room;
-      plans = cases_ok _ _ (questions l places capacity (within l.junctions (length l.outlets)) row) c.in-Ok.size asked (
+      plans = cases_ok _ _ (questions l places capacity (within l.junctions (length l.outlets)) row) c.in_ok-size.size asked (
         record {
           plan = is-plan;
           labels = is-left;

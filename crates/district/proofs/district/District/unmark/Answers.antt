@@ -1,37 +1,37 @@
-use Rattle.std.proofs.Common.{◌≡◌, ◌<◌, ◌≢◌, length, get_or, take, sym, ap, ◌∙◌, arith}
-use Rattle.std.proofs.lemmas.List.{get_or-take, length-take-le}
-use Rattle.district.specs.Model.{model_of, with_outlets}
-use Rattle.district.proofs.Marks.{has_at, spot, spot_absent}
-use Rattle.district.proofs.Unmarks.{del_is, low, Out, out_outlets, not_marked, leaves}
+use Rattle.std.proofs.Common.{sym, ap, ◌∙◌, subst, arith}
+use Rattle.std.specs.List.Sorted.{IsStrictlyIncreasing}
+use Rattle.district.specs.Bounds.{AllBelow}
+use Rattle.district.specs.Model.{model_of, with_outlets, unmark_answer, after_unmark}
+use Rattle.district.proofs.Laying.{let_through}
+use Rattle.district.proofs.Outlets.{holds, lacks, del_at, below_less, rising_less, not_marked, goes_out}
 use Rattle.district.proofs.district.District.unmark.Goals as goal
-use Rattle.district.proofs.district.District.unmark.Goals.{then-at-n-via-then-at-n, then-at-n-via-else-at-n+then-places-at}
 
-pub returns-then-at-n : goal.returns-then-at-n
-returns-then-at-n g c =
-    let D = c.args.self.now in
-    let O = D.outlets in
-    let p = c.place_of-at.result in
-    let l = O.long in
-    let f = O.few in
-    let ne : p < O.count → get_or O.places p 0 ≢ c.args.junction =
-    λ m. elim c.then-at-n.branch [ then-at-n-via-then-at-n w ↦ absurd (let x = w.if-at-n.true in omega arith) | then-at-n-via-else-at-n+then-places-at w ↦ w.if-places-at.true ] in
-    let s = spot O.places O.count p c.args.junction (omega arith) c.place_of-at.ensures.within c.place_of-at.ensures.before c.place_of-at.ensures.stop ne in
-    let h = not_marked (model_of D) c.args.junction c.if-junction-self.false (spot_absent O.places O.count p c.args.junction (omega arith) s O.rising) in
-    record { answers = sym h.0; writes = sym h.1; prices = λ q. q }
+pub returns-in-Ok : goal.returns-in-Ok
+returns-in-Ok g c =
+    let m = model_of c.args.self.now in
+    let o = c.in_ok-outlet.outlet in
+    let j = let_through m.junctions c.args.junction o _ c.in_ok-outlet.ensures in
+    let s = c.in-Ok.ensures in
+    let h = goes_out m o (omega (arith, j.0, j.1)) (holds m.outlets o _ s) in
+    record {
+      answers = sym h.0 ∙ ap (unmark_answer m) j.0;
+      writes = ap (with_outlets m) (c.remove.ensures.items ∙ sym (del_at m.outlets o _ s c.args.self.now.rising)) ∙ (sym h.1 ∙ ap (after_unmark m) j.0);
+    }
 
-pub returns : goal.returns
-returns g c =
+pub returns-in-Err : goal.returns-in-Err
+returns-in-Err g c =
+    let m = model_of c.args.self.now in
+    let o = c.in_ok-outlet.outlet in
+    let j = let_through m.junctions c.args.junction o _ c.in_ok-outlet.ensures in
+    let h = not_marked m o (omega (arith, j.0, j.1)) (lacks m.outlets o _ c.in-Err.ensures) in
+    record { answers = sym h.0 ∙ ap (unmark_answer m) j.0; writes = sym h.1 ∙ ap (after_unmark m) j.0 }
+
+pub invariant_of-self-clause-rising : goal.invariant_of-self-clause-rising
+invariant_of-self-clause-rising g c =
     let D = c.args.self.now in
-    let O = D.outlets in
-    let j = c.args.junction in
-    let p = c.place_of-at.result in
-    let l = O.long in
-    let f = O.few in
-    let os = take O.count O.places in
-    let fit : p < O.count = c.if-at-n.false in
-    let long : length os ≡ O.count = length-take-le O.count O.places (omega arith) in
-    let at : get_or os p 0 ≡ j = get_or-take O.count O.places p 0 fit ∙ c.if-places-at.false in
-    let out : Out O.places c.take_out.new.row O.count p = record { fit = fit; room = omega arith; same = c.take_out.auto.row; below = c.take_out.ensures.below; above = c.take_out.ensures.above } in
-    let h = leaves (model_of D) j c.if-junction-self.false (has_at j os p (omega arith) at) in
-    let e = out_outlets O.places c.take_out.new.row O.count p out ∙ sym (del_is j os p (omega arith) (low O.places O.count p j (omega arith) c.place_of-at.ensures.before) at) in
-    record { answers = sym h.0; writes = ap (with_outlets (model_of D)) e ∙ sym h.1; prices = λ q. q }
+    subst IsStrictlyIncreasing (sym c.remove.ensures.items) (rising_less D.outlets.items c.in_ok-outlet.outlet _ c.in-Ok.ensures D.rising)
+
+pub invariant_of-self-clause-inside : goal.invariant_of-self-clause-inside
+invariant_of-self-clause-inside g c =
+    let D = c.args.self.now in
+    subst (AllBelow D.junctions) (sym c.remove.ensures.items) (below_less D.outlets.items c.in_ok-outlet.outlet _ c.in-Ok.ensures D.junctions D.inside)

@@ -1,39 +1,24 @@
-use Rattle.std.proofs.Common.{◌≡◌, true, ◌&&◌, ◌++◌, length, take, sym, refl, ap, ◌∙◌, arith, rules}
-use Rattle.std.proofs.lemmas.List.{length-take-le}
+use Rattle.std.proofs.Common.{◌≡◌, true, ◌&&◌, ◌++◌, length, sym, refl}
 use Rattle.std.proofs.lemmas.Bool.{and_parts}
 use Rattle.district.specs.Model.{layout_of}
 use Rattle.network.specs.declared.refusal.Refusal.TheVariants.{EstimatorFit}
 use Rattle.estimate.proofs.Greaters.{both_fit, not_refused, greater_prepared}
 use Rattle.estimate.proofs.larger.LargerEstimator.prepare.Goals as goal
 
-pub returns : goal.returns
-returns g c =
-    let V = c.args.view.now in
-    let l = layout_of V in
-    let S = c.args.self.now in
-    let A = g.A.Estimator in
-    let B = g.B.Estimator in
-    let n = V.junctions in
-    let k = V.outlets.count in
-    let ps = V.outlets.places in
-    let twelve : length ps ≡ 12 = search rules in
-    let few = V.outlets.few in
-    let long : length (take k ps) ≡ k = length-take-le k ps (omega arith) in
-    let fit : A.within S.first n (length (take k ps)) && B.within S.second n (length (take k ps)) ≡ true =
-    ap (λ m. A.within S.first n m && B.within S.second n m) long ∙ sym c.if-not-fits.ensures in
-    let went = c.prepare.ensures in
-    let went-2 = c.prepare-2.ensures in
-    record {
-      answers = both_fit (A.within S.first n (length (take k ps))) (B.within S.second n (length (take k ps))) _ _ _ fit went-2.answers;
-      lends = λ i. went.lends i ++ went-2.lends i;
-      room = λ i n k. went.room i n k && went-2.room i n k;
-      keeps = λ e. not_refused (B.within S.second n (length (take k ps))) tt EstimatorFit _ (and_parts _ _ fit).1 went-2.answers e;
-      made = λ e. record {
-        first = A.bound c.prepare.new.self;
-        second = B.bound c.prepare-2.new.self;
-        first_made = went.made c.in_ok-prepare.was;
-        second_made = went-2.made e;
-        is = λ v I. refl;
-      };
-      lawful = λ e. greater_prepared g.met.A.Cost.Cost.laws l (A.bound c.prepare.new.self) (B.bound c.prepare-2.new.self) (went.lawful c.in_ok-prepare.was) (went-2.lawful e);
-    }
+pub returns-clause-lends : goal.returns-clause-lends
+returns-clause-lends g c = λ i. c.prepare.ensures.lends i ++ c.prepare-2.ensures.lends i
+
+pub returns-clause-room : goal.returns-clause-room
+returns-clause-room g c = λ i n k. c.prepare.ensures.room i n k && c.prepare-2.ensures.room i n k
+
+pub returns-clause-made : goal.returns-clause-made
+returns-clause-made g c = λ e. record {
+  first = g.A.Estimator.bound c.prepare.new.self;
+  second = g.B.Estimator.bound c.prepare-2.new.self;
+  first_made = c.prepare.ensures.made c.in_ok-prepare.was;
+  second_made = c.prepare-2.ensures.made e;
+  is = λ v I. refl;
+}
+
+pub returns-clause-lawful : goal.returns-clause-lawful
+returns-clause-lawful g c = λ e. greater_prepared g.met.A.Cost.Cost.laws (layout_of c.args.view.now) (g.A.Estimator.bound c.prepare.new.self) (g.B.Estimator.bound c.prepare-2.new.self) (c.prepare.ensures.lawful c.in_ok-prepare.was) (c.prepare-2.ensures.lawful e)

@@ -1,6 +1,0 @@
-use Rattle.std.proofs.Common.{◌≡◌, drop}
-use Rattle.text.proofs.Counting.{read_on}
-use Rattle.text.proofs.digits.number.Given as goal
-
-abbrev pub invariant-loop-b : goal.invariant-loop-b
-invariant-loop-b l = read_on (drop l.b-index l.word) l.n ≡ read_on l.word 0
