@@ -8,7 +8,7 @@ use Rattle.queue.specs.Waits.{lowered, put_in}
 use Rattle.labelling.specs.declared.kinds.Back.{Back}
 use Rattle.labelling.specs.declared.kinds.Place.{Place}
 use Rattle.labelling.specs.declared.kinds.Size.{Size}
-use Rattle.labelling.specs.Tables.{Rule, sum_of, Tables, codes, code_of, cost_at, reached_at, label_at, turn_at, key_at, no_way, Ready}
+use Rattle.labelling.specs.Tables.{Rule, sum_of, Tables, codes, code_of, label_cost, reached_at, label_at, turn_at, key_at, no_way, Ready}
 use Rattle.labelling.specs.Offers.{improves, written, keyed, offered}
 
 pub code_within : (s : Size) (v i : ℕ) → v < s.junctions → i < s.sets → code_of s v i < codes s
@@ -49,7 +49,7 @@ module _ {K : Type 0} (r : Rule K) (laws : Laws r.kind) (t : Tables K) (c : ℕ)
   pub falls : (key : K) → sum_of r k (r.bound (c / r.size.sets) (c % r.size.sets)) ≡ Some key → improves r t c k ≡ true → lowered r.kind.below (key_at r t c) key ≡ Some key
   falls key e h =
       let est = r.bound (c / r.size.sets) (c % r.size.sets) in
-      let l = cost_at r t c in
+      let l = label_cost r t c in
       let is : r.kind.plus k est ≡ key = some_of (r.fits (r.kind.bulk k + r.kind.bulk est)) (r.kind.plus k est) key e in
       low r.kind.below key (r.kind.plus l est) k l (ltb c (codes r.size)) (eqb (turn_at t c) 0) (reached_at t c) (r.fits (r.kind.bulk l + r.kind.bulk est)) (ap (λ x. r.kind.below x (r.kind.plus l est)) (sym is) ∙ laws.shift k l est) h
 

@@ -5,7 +5,7 @@ use Rattle.std.proofs.lemmas.Bool.{cases_eq}
 use Rattle.network.specs.Layouts.{Layout}
 use Rattle.labelling.specs.declared.kinds.Back.{Back}
 use Rattle.labelling.specs.declared.kinds.Place.{Place}
-use Rattle.labelling.specs.Tables.{Rule, sum_of, Tables, code_of, cost_at, reached_at, label_at, turn_at}
+use Rattle.labelling.specs.Tables.{Rule, sum_of, Tables, code_of, label_cost, reached_at, label_at, turn_at}
 use Rattle.labelling.specs.Offers.{written, offered}
 use Rattle.labelling.specs.Turns.{settled}
 use Rattle.labelling.specs.Tracing.{Earlier, Trace, from_outlet, from_run, from_fork, Traced}
@@ -23,8 +23,8 @@ module _ {K : Type 0} (r : Rule K) (l : Layout K) (t t' : Tables K) where
   trace_moved v I vn In early same cost b (from_fork {J = J} I' a c apart whole e f s) =
       let sum = or_disjoint I' J apart in
       from_fork I' a c apart whole (early v I' vn (omega arith) e) (early v J vn (omega arith) f)
-      (ap (λ (x : Option K). sum_of r (unwrap_or x r.kind.zero) (cost_at r t' (code_of r.size v J))) (same _ e.settled)
-      ∙ ap (λ (x : Option K). sum_of r (cost_at r t (code_of r.size v I')) (unwrap_or x r.kind.zero)) (same _ f.settled) ∙ s)
+      (ap (λ (x : Option K). sum_of r (unwrap_or x r.kind.zero) (label_cost r t' (code_of r.size v J))) (same _ e.settled)
+      ∙ ap (λ (x : Option K). sum_of r (label_cost r t (code_of r.size v I')) (unwrap_or x r.kind.zero)) (same _ f.settled) ∙ s)
 
   earlier_grown : Grown r t t' → (c d : ℕ) → Earlier t c d → Earlier t' c d
   earlier_grown g c d e = record {
@@ -37,7 +37,7 @@ module _ {K : Type 0} (r : Rule K) (l : Layout K) (t t' : Tables K) where
 
 -- the trace of a label, as the tables have it
 abbrev Arrived : {K : Type 0} → Rule K → Layout K → Tables K → ℕ → ℕ → Type 0
-Arrived r l t v I = Trace r l t v I (cost_at r t (code_of r.size v I)) (back_at t (code_of r.size v I))
+Arrived r l t v I = Trace r l t v I (label_cost r t (code_of r.size v I)) (back_at t (code_of r.size v I))
 
 -- ---- a candidate that has a trace
 module _ {K : Type 0} (r : Rule K) (l : Layout K) (n : ℕ) (t : Tables K) (traced : Traced r l n t) where
@@ -63,7 +63,7 @@ module _ {K : Type 0} (r : Rule K) (l : Layout K) (n : ℕ) (t : Tables K) (trac
         let d = code_of r.size v I in
         let e = label_other r t c k b d ne in
         subst (λ (x : Option K). Trace r l t' v I (unwrap_or x r.kind.zero) (back_at t' d)) (sym e)
-        (subst (λ x. Trace r l t' v I (cost_at r t d) x) (sym (back_other r t c k b d ne))
+        (subst (λ x. Trace r l t' v I (label_cost r t d) x) (sym (back_other r t c k b d ne))
         (trace_grown r l t t' grown v I vn In _ _ (traced.trace v I vn In (ap is_some (sym e) ∙ h))))
 
     pub written_traced : Traced r l n t'
@@ -118,7 +118,7 @@ module _ {K : Type 0} (r : Rule K) (l : Layout K) (n : ℕ) (t : Tables K) (trac
     settled_traced = record {
       some = traced.some;
       trace = λ v I vn In h.
-          subst (λ x. Trace r l s v I (cost_at r t (code_of r.size v I)) x) (sym (settled_back t c (n + 1) (code_of r.size v I) in_ways))
+          subst (λ x. Trace r l s v I (label_cost r t (code_of r.size v I)) x) (sym (settled_back t c (n + 1) (code_of r.size v I) in_ways))
           (trace_moved r l t s v I vn In (λ w J wn Jn. earlier_settled (code_of r.size v I) w J wn Jn) (λ d q. refl) _ _ (traced.trace v I vn In h));
       reached = λ v I vn In h.
           ⊎_elim

@@ -9,7 +9,7 @@ use Rattle.queue.proofs.Scan.{none≢some}
 use Rattle.labelling.specs.declared.kinds.Back.{Back}
 use Rattle.labelling.specs.declared.kinds.Back.TheVariants.{Run as ByRun, Fork}
 use Rattle.labelling.specs.declared.kinds.Place.{Place}
-use Rattle.labelling.specs.Tables.{Rule, sum_of, Tables, codes, code_of, cost_at, reached_at, turn_at, least_waiting}
+use Rattle.labelling.specs.Tables.{Rule, sum_of, Tables, codes, code_of, label_cost, reached_at, turn_at, least_waiting}
 use Rattle.labelling.specs.Offers.{offered}
 use Rattle.labelling.specs.Runs.{other_end, led, along_to, along, runs_offered, Ends}
 use Rattle.labelling.specs.Forks.{joined, fork, forks_offered, Closed}
@@ -64,7 +64,7 @@ module _ {K : Type 0} (r : Rule K) (l : Layout K) (ends : Ends r.size.junctions 
       pub traced : Traced r l n t
       pub long : Long r t
       pub is_settled : turn_at t here ≡ 0 → ⊥
-      pub costs : cost_at r t here ≡ from.cost
+      pub costs : label_cost r t here ≡ from.cost
 
     pub going_offered : (t : Tables K) (p : Place K) (b : Back) → Going t → p.v < r.size.junctions → p.set < r.size.sets → (p.set ≡ 0 → ⊥)
         → (turn_at t (code_of r.size p.v p.set) ≡ 0 → Trace r l t p.v p.set p.cost b) → Going (offered r t p b)
@@ -115,17 +115,17 @@ module _ {K : Type 0} (r : Rule K) (l : Layout K) (ends : Ends r.size.junctions 
         cond_both (eqb j 0) _ _ Going (λ z. go)
         (λ ne. cond_both (eqb (bit_and from.set j) 0) _ _ Going
         (λ apart. cond_both (eqb (turn_at t (code_of r.size from.v j)) 0) _ _ Going (λ z. go)
-        (λ s. join (eqb-false j 0 ne) (eqb-true _ 0 apart) (eqb-false _ 0 s) (sum_of r from.cost (cost_at r t (code_of r.size from.v j))) refl))
+        (λ s. join (eqb-false j 0 ne) (eqb-true _ 0 apart) (eqb-false _ 0 s) (sum_of r from.cost (label_cost r t (code_of r.size from.v j))) refl))
         (λ z. go))
       where
-        join : (j ≡ 0 → ⊥) → bit_and from.set j ≡ 0 → (turn_at t (code_of r.size from.v j) ≡ 0 → ⊥) → (o : Option K) → sum_of r from.cost (cost_at r t (code_of r.size from.v j)) ≡ o → Going (joined r t from j o)
+        join : (j ≡ 0 → ⊥) → bit_and from.set j ≡ 0 → (turn_at t (code_of r.size from.v j) ≡ 0 → ⊥) → (o : Option K) → sum_of r from.cost (label_cost r t (code_of r.size from.v j)) ≡ o → Going (joined r t from j o)
         join ne apart s None e = go
         join ne apart s (Some k) e =
             let sum = or_disjoint from.set j apart in
             going_offered t (record { v = from.v; set = bit_or from.set j; cost = k }) (Fork j) go vn (closed from.set j In jn) (λ z. some (omega arith))
             (λ fresh. from_fork from.set some ne apart refl
             (from_here t go (code_of r.size from.v (bit_or from.set j)) fresh) (record { settled = s; sooner = λ h. absurd (h fresh) })
-            (ap (λ m. sum_of r m (cost_at r t (code_of r.size from.v j))) go.costs ∙ e))
+            (ap (λ m. sum_of r m (label_cost r t (code_of r.size from.v j))) go.costs ∙ e))
 
     pub going_forks : (t : Tables K) → Going t → Going (forks_offered r from t)
     going_forks t go = forks_all_kept r from (λ i t. Going t) r.size.sets going_fork t go
@@ -158,7 +158,7 @@ module _ {K : Type 0} (r : Rule K) (l : Layout K) (ends : Ends r.size.junctions 
       long = record { labels = long.labels; ways = let e = settled_long t p.1 (n + 1) in let h = long.ways in omega arith };
       is_settled = λ z. let e : turn_at (settled t p.1 (n + 1)) p.1 ≡ n + 1 = settled_here t p.1 (n + 1) in_ways in
           let e' = ap (turn_at (settled t p.1 (n + 1))) taken_code in omega arith;
-      costs = ap (λ c. cost_at r t c) taken_code;
+      costs = ap (λ c. label_cost r t c) taken_code;
     }
 
     pub going_end : Going (n + 1) (place_at r t p.1) taken_v taken_set taken_some (settled t p.1 (n + 1)) (turned r l.«open» l.runs (n + 1) t)

@@ -7,7 +7,7 @@ use Rattle.labelling.specs.declared.kinds.Way.{Way}
 use Rattle.labelling.specs.declared.kinds.Back.{Back}
 use Rattle.labelling.specs.declared.kinds.Place.{Place}
 use Rattle.labelling.specs.declared.kinds.Size.{Size}
-use Rattle.labelling.specs.Tables.{Rule, sum_of, Tables, code_of, cost_at, reached_at, label_at, turn_at, no_way}
+use Rattle.labelling.specs.Tables.{Rule, sum_of, Tables, code_of, label_cost, reached_at, label_at, turn_at, no_way}
 use Rattle.labelling.specs.Offers.{improves, written, keyed, offered}
 use Rattle.labelling.specs.Turns.{settled}
 
@@ -67,7 +67,7 @@ written_grown r t c k b lt fresh = record {
 
 -- an improvement is at a code that is not settled
 pub improves_fresh : {K : Type 0} (r : Rule K) (t : Tables K) (c : ℕ) (k : K) → improves r t c k ≡ true → turn_at t c ≡ 0
-improves_fresh r t c k h = eqb-true (turn_at t c) 0 (first (eqb (turn_at t c) 0) (cond (reached_at t c) (r.kind.below k (cost_at r t c)) true) h)
+improves_fresh r t c k h = eqb-true (turn_at t c) 0 (first (eqb (turn_at t c) 0) (cond (reached_at t c) (r.kind.below k (label_cost r t c)) true) h)
   where
     first : (x y : Bool) → cond x y false ≡ true → x ≡ true
     first true y e = refl

@@ -2,11 +2,11 @@
 use Rattle.std.specs.Prelude.{ℕ, Bool, true, false, cond, set, Some, None, Option, ◌==◌}
 use Rattle.labelling.specs.declared.kinds.Back.{Back}
 use Rattle.labelling.specs.declared.kinds.Place.{Place}
-use Rattle.labelling.specs.Tables.{Rule, sum_of, Tables, tables, code_of, cost_at, reached_at, turn_at}
+use Rattle.labelling.specs.Tables.{Rule, sum_of, Tables, tables, code_of, label_cost, reached_at, turn_at}
 
 -- a candidate is kept if its label is unreached, or is not settled and costs strictly more
 abbrev pub improves : {K : Type 0} → Rule K → Tables K → ℕ → K → Bool
-improves r t c k = cond (turn_at t c == 0) (cond (reached_at t c) (r.kind.below k (cost_at r t c)) true) false
+improves r t c k = cond (turn_at t c == 0) (cond (reached_at t c) (r.kind.below k (label_cost r t c)) true) false
 
 -- the label reached at the cost k, with its way back
 abbrev pub written : {K : Type 0} → Tables K → ℕ → K → Back → Tables K

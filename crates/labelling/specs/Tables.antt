@@ -51,8 +51,8 @@ abbrev pub reached_at : {K : Type 0} → Tables K → ℕ → Bool
 reached_at t c = is_some (label_at t c)
 
 -- what it costs; zero where it is not reached
-abbrev pub cost_at : {K : Type 0} → Rule K → Tables K → ℕ → K
-cost_at r t c = unwrap_or (label_at t c) r.kind.zero
+abbrev pub label_cost : {K : Type 0} → Rule K → Tables K → ℕ → K
+label_cost r t c = unwrap_or (label_at t c) r.kind.zero
 
 -- no way back, and not settled
 abbrev pub no_way : Way
@@ -69,7 +69,7 @@ waits_at r t c = cond (nat_lt c (codes r.size)) (cond (turn_at t c == 0) (reache
 -- the key under which it waits: its cost and the bound on what is left to pay
 abbrev pub key_at : {K : Type 0} → Rule K → Tables K → ℕ → Option K
 key_at r t c =
-    cond (waits_at r t c) (sum_of r (cost_at r t c) (r.bound (c / r.size.sets) (c % r.size.sets))) None
+    cond (waits_at r t c) (sum_of r (label_cost r t c) (r.bound (c / r.size.sets) (c % r.size.sets))) None
 
 -- the better of the best so far and what waits at a later code
 abbrev pub with_key : {K : Type 0} → (K → K → Bool) → Option (K × ℕ) → Option K → ℕ → Option (K × ℕ)
