@@ -1,11 +1,10 @@
 // What each line of a district got, on standard output.
-use crate::fault::Fault;
+use console::{Fault, Marked};
 use network::{Cost, Refusal};
 use replay::{Answer, Call, Turn};
 use requests::Figured;
 use search::NoPlan;
 use sheets::{Entry, Sheet, Trial, find_trial};
-use std::fmt;
 
 // How many districts were made, and what was said of the trenches dug.
 #[derive(Clone, Copy)]
@@ -16,25 +15,6 @@ pub struct Tally {
     pub not_planned: u64,
     // A line was not understood or had no district.
     pub skipped: bool,
-}
-
-// The runs that a row marks.
-#[derive(Drop)]
-struct Marked<'r> {
-    row: &'r [u8],
-}
-
-impl fmt::Display for Marked<'_> {
-    fn fmt<W: fmt::Write>(&self, f: &mut fmt::Formatter<W>) -> fmt::Result {
-        let mut some = false;
-        for (number, mark) in self.row.iter().enumerate() {
-            if *mark == 1 {
-                write!(f, " {number}")?;
-                some = true;
-            }
-        }
-        if some { Ok(()) } else { write!(f, " none") }
-    }
 }
 
 // A call that was taken and answers with nothing else.

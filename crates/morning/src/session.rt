@@ -3,9 +3,9 @@ ghost use Rattle.std.specs.Prelude.{OnOk};
 ghost use Rattle.commands.specs.Commands.{understood};
 ghost use Rattle.sheets.specs.Pages.{Read};
 
-use crate::fault::Fault;
 use crate::say::{Tally, say_no_district, say_not_understood, say_sheet};
 use commands::{Command, next_line, read_line};
+use console::Fault;
 use network::Cost;
 use requests::Figured;
 use sheets::{Page, Sheet, try_sheet};
