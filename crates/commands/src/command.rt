@@ -61,13 +61,13 @@ pub struct PlanWords {
     pub estimator: Option<EstimatorChoice>,
 }
 
-#[derive(Clone, Copy)]
+#[derive(Clone, Copy, PartialEq, Eq)]
 pub enum QueueChoice {
     Row,
     Heap,
 }
 
-#[derive(Clone, Copy)]
+#[derive(Clone, Copy, PartialEq, Eq)]
 pub enum EstimatorChoice {
     Silent,
     Farthest,

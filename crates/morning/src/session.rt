@@ -63,13 +63,7 @@ fn take_line(
 }
 
 pub fn answer_all(rt: &HostRuntime, text: &[u8]) -> Result<(), Fault> {
-    let mut tally = Tally {
-        districts: 0,
-        agree: 0,
-        differ: 0,
-        not_planned: 0,
-        skipped: false,
-    };
+    let mut tally = Tally::default();
     let mut page: Option<Page> = None;
     let mut number: u64 = 0;
     let mut rest = text;
