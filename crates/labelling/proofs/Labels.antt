@@ -1,11 +1,9 @@
 -- One more turn of the labelling, and its three ends. Assumes nothing.
-use Rattle.std.proofs.Common.{◌≡◌, ℕ, suc, ◌+◌, Bool, cond, eqb, List, Some, None, Option, sym, ap, ◌∙◌, subst}
+use Rattle.std.proofs.Common.{◌≡◌, ℕ, suc, ◌+◌, Bool, cond, eqb, List, Some, None, Option, sym, ap, ◌∙◌}
 use Rattle.std.proofs.lemmas.Bool.{cond-true, cond-false, eq-eqb, ne_eqb}
-use Rattle.labelling.specs.declared.kinds.Way.{Way}
-use Rattle.labelling.specs.declared.kinds.Outcome.{Outcome}
 use Rattle.labelling.specs.declared.kinds.Outcome.TheVariants.{Finished, NoneWaits}
 use Rattle.network.specs.declared.run.Run.{Run}
-use Rattle.labelling.specs.Tables.{Rule, Tables, tables, least_waiting, Ready}
+use Rattle.labelling.specs.Tables.{Rule, Tables, least_waiting}
 use Rattle.labelling.specs.Turns.{settled, turned_at, turned, took}
 use Rattle.labelling.specs.Labelling.{Labelled, ended, stopped, made, labelled}
 
@@ -40,11 +38,3 @@ module _ {K : Type 0} (r : Rule K) (marks : List Bool) (runs : List (Run K)) (go
         ap (labelled r marks runs goal b' (n + 1)) (took_by (Some p) h ∙ cond-false (eqb p.1 goal) _ _ y ∙ ap (turned_at r marks runs (n + 1) t) h)
         ∙ sym (cond-false (eqb p.1 goal) _ _ y)
         ∙ by_made (Some p) h
-
--- the same, where ways meet
-pub ready_moved : {K : Type 0} (r : Rule K) {ls ls' : List (Option K)} {ws ws' : List Way} {ks ks' : List (Option K)} → ls ≡ ls' → ws ≡ ws' → ks ≡ ks' → Ready r (tables ls' ws') ks' → Ready r (tables ls ws) ks
-ready_moved r {ls} {ls'} {ws} {ws'} {ks} {ks'} p q s h =
-    subst (λ x. Ready r (tables x ws) ks) (sym p) (subst (λ x. Ready r (tables ls' x) ks) (sym q) (subst (Ready r (tables ls' ws')) (sym s) h))
-
-pub ended_moved : {K : Type 0} {ls ls' : List (Option K)} {ws ws' : List Way} {o o' : Outcome K} {n n' : ℕ} → ls ≡ ls' → ws ≡ ws' → o ≡ o' → n ≡ n' → ended o n (tables ls ws) ≡ ended o' n' (tables ls' ws')
-ended_moved p q s u = cc

@@ -1,5 +1,5 @@
 -- Blank tables, one more outlet, and the sets of k outlets. Assumes nothing.
-use Rattle.std.proofs.Common.{◌≡◌, ℕ, zero, suc, ◌+◌, ◌-◌, ◌^◌, ◌<◌, ◌≤◌, Bool, true, false, cond, eqb, ltb, List, [], ◌∷◌, ◌++◌, length, get_or, drop, set, replicate, None, Option, sym, refl, ap, ◌∙◌, subst, ⊎_elim, add-one, arith}
+use Rattle.std.proofs.Common.{◌≡◌, ℕ, zero, suc, ◌+◌, ◌-◌, ◌^◌, ◌<◌, ◌≤◌, Bool, true, false, cond, eqb, ltb, List, [], ◌∷◌, ◌++◌, length, get_or, drop, replicate, None, Option, sym, refl, ap, ◌∙◌, subst, ⊎_elim, arith}
 use lib.Bits.{or_lt}
 use lib.ListN.{length-replicate}
 use Rattle.std.proofs.lemmas.List.{drop_more, drop_all}
@@ -16,12 +16,6 @@ use Rattle.labelling.proofs.Offering.{key_by}
 use Rattle.labelling.proofs.Taking.{key_past}
 
 module _ {X : Type 0} (x : X) where
-  wiped_suc : (n : ℕ) (xs : List X) → n < length xs → set (wiped n x xs) n x ≡ wiped (suc n) x xs
-  wiped_suc zero [] lt = absurd (omega arith)
-  wiped_suc zero (y ∷ ys) lt = refl
-  wiped_suc (suc n) [] lt = absurd (omega arith)
-  wiped_suc (suc n) (y ∷ ys) lt = ap (λ zs. x ∷ zs) (wiped_suc n ys (omega arith))
-
   front_at : (n : ℕ) (ys : List X) (k : ℕ) (d : X) → k < n → get_or (replicate n x ++ ys) k d ≡ x
   front_at zero ys k d lt = absurd (omega arith)
   front_at (suc n) ys zero d lt = refl
@@ -34,9 +28,6 @@ module _ {X : Type 0} (x : X) where
   length_wiped zero xs le = refl
   length_wiped (suc n) [] le = absurd (omega arith)
   length_wiped (suc n) (y ∷ ys) le = ap suc (length_wiped n ys (omega arith))
-
-pub wiped_more : {X : Type 0} (n : ℕ) (x : X) (xs : List X) → n < length xs → set (wiped n x xs) n x ≡ wiped (n + 1) x xs
-wiped_more n x xs lt = wiped_suc x n xs lt ∙ sym (ap (λ m. wiped m x xs) (add-one n))
 
 none_at : {K : Type 0} (n c : ℕ) → get_or {A = Option K} (replicate n None) c None ≡ None
 none_at zero c = refl

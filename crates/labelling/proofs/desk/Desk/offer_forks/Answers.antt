@@ -3,7 +3,7 @@ use lib.Bits.{bit_or}
 use Rattle.labelling.specs.Tables.{rule}
 use Rattle.labelling.specs.Forks.{fork}
 use Rattle.labelling.specs.Desks.{tables_on}
-use Rattle.labelling.proofs.Desks.{fit_again, kept_then, same_then}
+use Rattle.labelling.proofs.Desks.{kept_then, same_then}
 use Rattle.labelling.proofs.Forking.{forks_first, forks_next, forks_last}
 use Rattle.labelling.proofs.desk.Desk.offer_forks.Goals as goal
 
@@ -21,15 +21,6 @@ loop-set-init g c =
       forks_first r c.args.from (tables_on d) n.result c.args.size.sets (omega (arith, c.requires.outlets)) n.ensures.rises n.ensures.skips,
       n.ensures.apart,
     )
-
-pub offer_fork-requires : goal.offer_fork-requires
-offer_fork-requires g c = record {
-  fit = fit_again g.E.Estimator.bound c.args.self.now c.loop-set.self c.loop-set.invariant.0;
-  junction = c.requires.junction;
-  outlets = c.requires.outlets;
-  others = c.loop-set-test.true;
-  closed = c.requires.closed;
-}
 
 pub loop-set-preserved : goal.loop-set-preserved
 loop-set-preserved g c =

@@ -1,4 +1,4 @@
-use Rattle.std.proofs.Common.{◌-◌, ◌<◌, length, Some, None, sym, ap, ◌∙◌, subst, rules}
+use Rattle.std.proofs.Common.{◌-◌, ◌<◌, length, Some, None, sym, ap, ◌∙◌, subst}
 use Rattle.district.specs.Model.{layout_of}
 use Rattle.labelling.specs.declared.kinds.Place.{Place}
 use Rattle.labelling.specs.declared.kinds.Size.{Size}
@@ -12,16 +12,18 @@ use Rattle.labelling.proofs.Starting.{closed_sets}
 use Rattle.labelling.proofs.Taking.{least_is, taken_within, turn_done, took_last, took_more, junction_within, set_within}
 use Rattle.labelling.proofs.desk.Desk.take_turn.Goals as goal
 
-pub returns-in_err-taken : goal.returns-in_err-taken
-returns-in_err-taken g c =
+pub returns-in_err-taken-clause-answers : goal.returns-in_err-taken-clause-answers
+returns-in_err-taken-clause-answers g c =
     let d = c.args.self.now in
     let r = rule g.Q.Cost.Cost.kind (g.E.Estimator.bound d.estimator) c.args.size in
-    let e = least_is r g.met.Q.Cost.Cost.laws (tables_on d) (g.Q.Queue.waiting d.queue) c.requires.fit.ready None c.in_err-taken.ensures.answers in
-    record {
-      answers = c.from_residual.ensures ∙ e;
-      kept = search rules;
-      same = ap (took r c.args.view.now.open.now c.args.view.now.runs.now c.args.goal c.args.number (tables_on d)) e;
-    }
+    c.from_residual.ensures ∙ least_is r g.met.Q.Cost.Cost.laws (tables_on d) (g.Q.Queue.waiting d.queue) c.requires.fit.ready None c.in_err-taken.ensures.answers
+
+pub returns-in_err-taken-clause-same : goal.returns-in_err-taken-clause-same
+returns-in_err-taken-clause-same g c =
+    let d = c.args.self.now in
+    let r = rule g.Q.Cost.Cost.kind (g.E.Estimator.bound d.estimator) c.args.size in
+    ap (took r c.args.view.now.open.now c.args.view.now.runs.now c.args.goal c.args.number (tables_on d))
+    (least_is r g.met.Q.Cost.Cost.laws (tables_on d) (g.Q.Queue.waiting d.queue) c.requires.fit.ready None c.in_err-taken.ensures.answers)
 
 pub offer_runs-requires-clause-outlets : goal.offer_runs-requires-clause-outlets
 offer_runs-requires-clause-outlets g c =
