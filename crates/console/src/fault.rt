@@ -1,6 +1,8 @@
 // What ends a program with status 1.
 ghost use Rattle.std.specs.Prelude.{◌≡◌};
+ghost use Rattle.std.specs.IoError.{error_kind};
 ghost use Rattle.console.specs.declared.fault.Fault.TheVariants.{Memory as OutOfMemory};
+ghost use Rattle.console.specs.Faults.{fault_of};
 
 use std::alloc::AllocError;
 use std::{fmt, io};
@@ -37,6 +39,8 @@ impl From<AllocError> for Fault {
 
 // An error of the output, unless memory ran out.
 impl From<io::Error> for Fault {
+    ghost from_gives = { λ e fault. fault ≡ fault_of (error_kind e) };
+
     fn from(e: io::Error) -> Fault {
         match e.kind() {
             io::ErrorKind::OutOfMemory => Fault::Memory,

@@ -104,7 +104,7 @@ fn plan_queued<Q: Queue>(
     }
 }
 
-// A cheapest network of a view, as a line asks for it, or why there is none.
+// A cheapest network of a view, as a line asks for it, or why there is none. Only memory ends the program, and `?` passes it on alone.
 pub fn plan_view<K: Cost>(
     heap: Global,
     view: &View<'_, K>,

@@ -34,7 +34,8 @@ fn compare(planned: Option<u64>, cost: u64) -> Answer
 }
 
 impl Site {
-    // A fresh district, over rows of its own.
+    // A fresh district, over rows of its own. A Result in a Result, since a refusal is what the line gets and only memory ends the program:
+    // one enum of both would be taken apart again by its only caller.
     pub fn make(
         heap: Global,
         junctions: u64,

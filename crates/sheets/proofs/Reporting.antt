@@ -80,16 +80,33 @@ module _ {K : Type 0} (kind : Kind K) (s : Sheet K) where
   reported_more : (tools : Tools) (us vs : List (Trial K)) → Grown kind s us vs → Reported s us tools → Reported s vs tools
   reported_more tools us vs g r = λ is. g.kept (Some tools) (r is)
 
-  pub by_each : (queue : QueueChoice) (ts us vs ws : List (Trial K)) → GrownBy kind s (record { queue = queue; estimator = Silent }) ts us → GrownBy kind s (record { queue = queue; estimator = Farthest }) us vs → GrownBy kind s (record { queue = queue; estimator = Larger }) vs ws → GrownFor kind s queue ts ws
-  by_each queue ts us vs ws a b c = record {
-    grown = grown_more ts us ws a.grown (grown_more us vs ws b.grown c.grown);
-    reports = by;
-  }
+  -- plans with these estimators are reported
+  abbrev pub EachReported : QueueChoice → List EstimatorChoice → List (Trial K) → Type 0
+  EachReported queue [] ts = Unit {0}
+  EachReported queue (e ∷ es) ts = Reported s ts (record { queue = queue; estimator = e }) × EachReported queue es ts
+
+  -- the trials have grown, and report what plans with the queue and these estimators got
+  pub record GrownWith (queue : QueueChoice) (es : List EstimatorChoice) (ts us : List (Trial K)) : Type 0 where
+    pub grown : Grown kind s ts us
+    pub reports : EachReported queue es us
+
+  pub with_none : (queue : QueueChoice) (ts : List (Trial K)) → GrownWith queue [] ts ts
+  with_none queue ts = record { grown = grown_none ts; reports = tt }
+
+  each_more : (queue : QueueChoice) (e : EstimatorChoice) (es : List EstimatorChoice) (us vs : List (Trial K)) → Grown kind s us vs → EachReported queue es us → Reported s vs (record { queue = queue; estimator = e }) → EachReported queue (es ++ e ∷ []) vs
+  each_more queue e [] us vs g r h = (h, tt)
+  each_more queue e (x ∷ es) us vs g r h = (reported_more _ us vs g r.0, each_more queue e es us vs g r.1 h)
+
+  pub with_more : (queue : QueueChoice) (e : EstimatorChoice) (es : List EstimatorChoice) (ts us vs : List (Trial K)) → GrownWith queue es ts us → GrownBy kind s (record { queue = queue; estimator = e }) us vs → GrownWith queue (es ++ e ∷ []) ts vs
+  with_more queue e es ts us vs a b = record { grown = grown_more ts us vs a.grown b.grown; reports = each_more queue e es us vs b.grown a.reports b.reports }
+
+  pub with_all : (queue : QueueChoice) (ts us : List (Trial K)) → GrownWith queue (Silent ∷ Farthest ∷ Larger ∷ []) ts us → GrownFor kind s queue ts us
+  with_all queue ts us a = record { grown = a.grown; reports = by }
     where
-      by : (e : EstimatorChoice) → Reported s ws (record { queue = queue; estimator = e })
-      by Silent = reported_more _ us ws (grown_more us vs ws b.grown c.grown) a.reports
-      by Farthest = reported_more _ vs ws c.grown b.reports
-      by Larger = c.reports
+      by : (e : EstimatorChoice) → Reported s us (record { queue = queue; estimator = e })
+      by Silent = a.reports.0
+      by Farthest = a.reports.1.0
+      by Larger = a.reports.1.1.0
 
   pub by_both : (ts us : List (Trial K)) → GrownFor kind s Row [] ts → GrownFor kind s Heap ts us → Named kind s us
   by_both ts us a b = record { each = b.grown.each (a.grown.each tt); plans = λ tools. by tools.queue tools.estimator }

@@ -54,21 +54,14 @@ fn add_queue<K: Cost + Figured>(
 ) -> Result<(), AllocError>
     ensures { OnOk result (GrownFor K.Cost.kind sheet.now queue trials.old.items trials.new.items) }
 {
-    let silent = Tools {
-        queue,
-        estimator: EstimatorChoice::Silent,
-    };
-    let farthest = Tools {
-        queue,
-        estimator: EstimatorChoice::Farthest,
-    };
-    let larger = Tools {
-        queue,
-        estimator: EstimatorChoice::Larger,
-    };
-    add_named(heap, sheet, silent, trials)?;
-    add_named(heap, sheet, farthest, trials)?;
-    add_named(heap, sheet, larger, trials)
+    for estimator in [
+        EstimatorChoice::Silent,
+        EstimatorChoice::Farthest,
+        EstimatorChoice::Larger,
+    ] {
+        add_named(heap, sheet, Tools { queue, estimator }, trials)?;
+    }
+    Ok(())
 }
 
 // The trials with all tools that plans name.
