@@ -48,7 +48,3 @@ module _ {K : Type 0} (r : Rule K) (from : Place K) (t : Tables K) where
       is-s'
       ∙ ap (fork r from j) (is-s ∙ ap (λ k. forks_to r from k t) e)
       ∙ sym (forks_skip (suc j) (min n m) (omega arith) (λ x p q. skips x (omega arith) (omega arith)))
-
-  -- after the last
-  pub forks_last : (j m : ℕ) (s : Tables K) → m ≤ j → s ≡ forks_to r from (min j m) t → s ≡ forks_to r from m t
-  forks_last j m s ge is-s = let e : min j m ≡ m = omega arith in is-s ∙ ap (λ k. forks_to r from k t) e

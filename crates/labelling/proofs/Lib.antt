@@ -1,5 +1,4 @@
 pub mod Offering
-pub mod Running
 pub mod Forking
 pub mod Taking
 pub mod Labels

@@ -1,8 +1,8 @@
 -- What is taken is the least that waits in the tables, and settling it keeps the queue and the tables together. Assumes nothing.
-use Rattle.std.proofs.Common.{◌≡◌, ℕ, zero, suc, ◌+◌, ◌*◌, ◌/◌, ◌%◌, ◌<◌, ◌≤◌, Bool, true, false, cond, eqb, ltb, ◌⊎◌, List, length, get_or, set, Some, None, Option, sym, refl, ap, ◌∙◌, subst, inl, inr, ⊎_elim, add-one, arith}
-use Rattle.std.proofs.lemmas.List.{length-set, get_or-set_same, get_or-set_other}
+use Rattle.std.proofs.Common.{◌≡◌, ℕ, zero, suc, ◌+◌, ◌*◌, ◌/◌, ◌%◌, ◌<◌, ◌≤◌, Bool, true, false, cond, eqb, ltb, ◌⊎◌, List, length, get_or, Some, None, Option, sym, refl, ap, ◌∙◌, subst, inl, inr, ⊎_elim, add-one, arith}
+use Rattle.std.proofs.lemmas.List.{get_or-set_same}
 use Rattle.std.proofs.lemmas.Nat.{div_below, mod_below}
-use Rattle.std.proofs.lemmas.Bool.{cases_eq, cases_lt, cond-true, cond-false, eq-eqb, ne_eqb, le-ltb}
+use Rattle.std.proofs.lemmas.Bool.{cases_lt, cond-true, cond-false, eq-eqb, ne_eqb, le-ltb}
 use Rattle.network.specs.Costs.{Laws}
 use Rattle.queue.specs.Waits.{Least}
 use Rattle.queue.proofs.Scan.{none≢some, LeastTo, least_to_skip, least_to_more, least_unique}
@@ -14,7 +14,7 @@ use Rattle.labelling.specs.Tables.{Rule, sum_of, Tables, codes, label_cost, reac
 use Rattle.labelling.specs.Runs.{runs_offered}
 use Rattle.labelling.specs.Forks.{forks_offered}
 use Rattle.labelling.specs.Turns.{place_at, settled, turned_at, turned, took}
-use Rattle.labelling.proofs.Offering.{key_by, key_same}
+use Rattle.labelling.proofs.Offering.{key_by}
 
 -- nothing waits past the codes
 pub key_past : {K : Type 0} (r : Rule K) (t : Tables K) (c : ℕ) → codes r.size ≤ c → key_at r t c ≡ None
@@ -59,19 +59,6 @@ module _ {K : Type 0} (r : Rule K) (laws : Laws r.kind) where
         neither : (b : Bool) (o : Option K) → cond (cond b false false) o None ≡ None
         neither true o = refl
         neither false o = refl
-
-    pub settled_ready : (c n : ℕ) → 0 < n → c < codes r.size → Ready r (settled t c n) (set ks c None)
-    settled_ready c n pos within = record {
-      labels_long = ready.labels_long;
-      ways_long = subst (λ m. codes r.size ≤ m) (sym (length-set t.ways c _)) ready.ways_long;
-      waits_long = subst (λ m. codes r.size ≤ m) (sym (length-set ks c None)) ready.waits_long;
-      matches = λ d.
-          ⊎_elim
-          (λ same. subst (λ i. get_or (set ks c None) i None ≡ key_at r (settled t c n) i) (sym same)
-          (get_or-set_same ks c None None (omega (arith, ready.waits_long)) ∙ sym (key_settled c n pos (omega (arith, ready.ways_long)))))
-          (λ ne. get_or-set_other ks c d None None ne ∙ ready.matches d ∙ key_same r t (settled t c n) d (sym (ap (λ w. w.turn) (get_or-set_other t.ways c d _ no_way ne))) refl)
-          (cases_eq d c);
-    }
 
     -- the turn, by what its steps left
     pub turn_done : (p : K × ℕ) → Least r.kind.below ks (Some p) → (n : ℕ) (marks : List Bool) (runs : List (Run K)) (from : Place K) (t1 t2 : Tables K) → from ≡ place_at r t p.1 → t1 ≡ runs_offered r from marks 0 runs (settled t p.1 n) → t2 ≡ forks_offered r from t1 → t2 ≡ turned r marks runs n t

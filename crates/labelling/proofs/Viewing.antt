@@ -1,18 +1,15 @@
 -- What a view says of the labels' memory, and of its outlets. Assumes nothing.
-use Rattle.std.proofs.Common.{◌≡◌, ℕ, suc, ◌-◌, ◌<◌, ◌≤◌, true, false, eqb, ltb, ◌⊎◌, List, [], ◌∷◌, length, get_or, take, drop, Ok, Err, Option, Result, sym, refl, ap, ◌∙◌, subst, inl, inr, arith}
+use Rattle.std.proofs.Common.{◌≡◌, ℕ, suc, ◌-◌, ◌<◌, ◌≤◌, true, false, eqb, ltb, ◌⊎◌, List, [], ◌∷◌, length, get_or, take, drop, Ok, Err, Result, sym, refl, ◌∙◌, subst, inl, inr, arith}
 use Rattle.std.proofs.lemmas.List.{take_all}
 use Rattle.std.proofs.lemmas.Bool.{cases_Bool, cond-true, cond-false, eqb-false, ltb-false}
 use Rattle.network.specs.declared.run.Run.{Run}
 use Rattle.network.specs.declared.refusal.Refusal.{Refusal}
 use Rattle.network.specs.declared.refusal.Refusal.TheVariants.{NoOutlet, LabelMemory, QueueCapacity}
-use Rattle.network.specs.Costs.{Kind}
 use Rattle.network.specs.Layouts.{Layout}
-use Rattle.network.specs.Bounds.{root}
 use Rattle.labelling.specs.declared.kinds.Size.{Size}
-use Rattle.labelling.specs.Tables.{rule, Tables, codes, code_of, Ready}
+use Rattle.labelling.specs.Tables.{codes}
 use Rattle.labelling.specs.Runs.{Ends}
-use Rattle.labelling.specs.Labelling.{Labelled, labelled}
-use Rattle.labelling.specs.Starts.{Within, size_of, rule_of, blank, started, labelling}
+use Rattle.labelling.specs.Starts.{Within, size_of}
 use Rattle.labelling.specs.Questions.{room_answer}
 
 -- what holds at each place holds along the list
@@ -69,13 +66,3 @@ asked_room l places capacity size e = by_tests (cases_Bool (eqb (length l.outlet
           labels = ltb-false places (codes (size_of l)) b;
           queue = ltb-false capacity (codes (size_of l)) c;
         }
-
--- the labelling of the view, by what its steps read
-module _ {K : Type 0} (kind : Kind K) (bound : ℕ → ℕ → K) (l : Layout K) (size : Size) (is-size : size ≡ size_of l) where
-  pub view_labelling : (limit from : ℕ) (rest : List ℕ) (t : Tables K) (x : Labelled K) → from ≡ root l → rest ≡ drop 1 l.outlets → x ≡ labelled (rule kind bound size) l.«open» l.runs (code_of size from (size.sets - 1)) limit 0 (started (rule kind bound size) 0 rest (blank (rule kind bound size) t)) → x ≡ labelling kind bound l limit t
-  view_labelling limit from rest t x is_from is-rest is_x =
-      let by : Size → ℕ → List ℕ → Labelled K = λ s v os. labelled (rule kind bound s) l.«open» l.runs (code_of s v (s.sets - 1)) limit 0 (started (rule kind bound s) 0 os (blank (rule kind bound s) t)) in
-      is_x ∙ ap (λ s. by s from rest) is-size ∙ ap (λ v. by (size_of l) v rest) is_from ∙ ap (by (size_of l) (root l)) is-rest
-
-  pub view_ready : (t : Tables K) (ks : List (Option K)) → Ready (rule kind bound size) t ks → Ready (rule_of kind bound l) t ks
-  view_ready t ks h = subst (λ s. Ready (rule kind bound s) t ks) is-size h

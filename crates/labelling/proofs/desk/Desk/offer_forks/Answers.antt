@@ -4,7 +4,7 @@ use Rattle.labelling.specs.Tables.{rule}
 use Rattle.labelling.specs.Forks.{fork}
 use Rattle.labelling.specs.Desks.{tables_on}
 use Rattle.labelling.proofs.Desks.{kept_then, same_then}
-use Rattle.labelling.proofs.Forking.{forks_first, forks_next, forks_last}
+use Rattle.labelling.proofs.Forking.{forks_first, forks_next}
 use Rattle.labelling.proofs.desk.Desk.offer_forks.Goals as goal
 
 pub next_apart-set-requires-in-loop-set : goal.next_apart-set-requires-in-loop-set
@@ -34,10 +34,3 @@ loop-set-preserved g c =
           (same_then g.Q.Cost.Cost.kind c.args.size g.E.Estimator.bound d s inv.0.estimator (λ x. fork x c.args.from c.loop-set.set (tables_on s)) _ c.offer_fork.ensures.same),
       n.ensures.apart,
     )
-
-pub returns : goal.returns
-returns g c =
-    let d = c.args.self.now in
-    let r = rule g.Q.Cost.Cost.kind (g.E.Estimator.bound d.estimator) c.args.size in
-    let inv = c.loop-set.invariant in
-    record { kept = inv.0; same = forks_last r c.args.from (tables_on d) c.loop-set.set c.args.size.sets _ c.loop-set-test.false inv.1 }
