@@ -92,11 +92,16 @@ pub fn try_sheet<K: Cost + Figured>(
     Ok(trials)
 }
 
+// Whether what was tried with these tools reports what a call got.
+fn reports(tools: Option<Tools>, tried: Tools) -> bool
+    ensures { result ≡ reporting tools tried }
+{
+    tools.is_none_or(|named| named == tried)
+}
+
 // Where to find what a call got: a plan by its own tools, any other call by whichever.
 pub fn find_trial<K: Cost>(trials: &[Trial<K>], tools: Option<Tools>) -> Option<&Trial<K>>
     ensures { MatchOption result (NoneReports tools trials.now) (λ t. reporting tools t.now.tools ≡ true) }
 {
-    trials
-        .iter()
-        .find(|trial| tools.is_none_or(|named| named == trial.tools))
+    trials.iter().find(|trial| reports(tools, trial.tools))
 }
