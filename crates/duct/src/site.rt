@@ -6,7 +6,6 @@ ghost use Rattle.duct.specs.Sites.{model, compared, cost_said, Started, Answered
 
 use crate::answer::Answer;
 use crate::planner::plan_view;
-use crate::rows::row_of;
 use district::district::{District, Memory};
 use network::{Money, Refusal, Run, RunNumber};
 use search::NoPlan;
@@ -50,8 +49,8 @@ impl Site {
             cost: Money { amount: 0 },
         };
         let memory = Memory {
-            runs: row_of(heap, run, places)?,
-            open: row_of(heap, false, places)?,
+            runs: vec![in heap; run; places]?,
+            open: vec![in heap; false; places]?,
         };
         match District::make(junctions, memory) {
             Ok(district) => Ok(Ok(Site {

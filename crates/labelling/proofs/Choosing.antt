@@ -2,18 +2,18 @@
 use Rattle.std.proofs.Common.{◌≡◌, ℕ, zero, suc, ◌/◌, ◌%◌, ◌<◌, Bool, true, false, cond, eqb, ltb, Some, None, Option, sym, refl, ap, ◌∙◌, subst, ⊎_elim, arith}
 use Rattle.std.proofs.lemmas.Bool.{cases_lt, cases_Bool, ltb-true, eqb-true}
 use Rattle.queue.proofs.Scan.{none≢some}
-use Rattle.labelling.specs.Tables.{Rule, sum_of, Tables, codes, label_at, turn_at, key_at, with_key, least_to, least_waiting}
+use Rattle.labelling.specs.Tables.{Rule, sum_of, Tables, codes, label_cost, reached_at, turn_at, key_at, with_key, least_to, least_waiting}
 
 -- the label at c waits under the key k
 pub record Waits {K : Type 0} (r : Rule K) (t : Tables K) (c : ℕ) (k : K) : Type 0 where
   pub within : c < codes r.size
   pub fresh : turn_at t c ≡ 0
-  pub reached : (label_at r t c).reached ≡ true
-  pub sum : sum_of r (label_at r t c).cost (r.bound (c / r.size.sets) (c % r.size.sets)) ≡ Some k
+  pub reached : reached_at t c ≡ true
+  pub sum : sum_of r (label_cost r t c) (r.bound (c / r.size.sets) (c % r.size.sets)) ≡ Some k
 
 pub key_waits : {K : Type 0} (r : Rule K) (t : Tables K) (c : ℕ) (k : K) → key_at r t c ≡ Some k → Waits r t c k
 key_waits {K} r t c k e =
-    let q = parts (ltb c (codes r.size)) (eqb (turn_at t c) 0) (label_at r t c).reached (sum_of r (label_at r t c).cost (r.bound (c / r.size.sets) (c % r.size.sets))) e in
+    let q = parts (ltb c (codes r.size)) (eqb (turn_at t c) 0) (reached_at t c) (sum_of r (label_cost r t c) (r.bound (c / r.size.sets) (c % r.size.sets))) e in
     record { within = ltb-true c (codes r.size) q.0; fresh = eqb-true (turn_at t c) 0 q.1; reached = q.2; sum = q.3 }
   where
     parts : (x y z : Bool) (o : Option K) → cond (cond x (cond y z false) false) o None ≡ Some k → (x ≡ true) × (y ≡ true) × (z ≡ true) × (o ≡ Some k)

@@ -1,16 +1,15 @@
 -- A labelling keeps the traces from its start to its end. Assumes nothing.
-use Rattle.std.proofs.Common.{◌≡◌, ℕ, zero, suc, ◌+◌, ◌-◌, ◌^◌, ◌<◌, ◌≤◌, true, ◌≢◌, List, [], ◌∷◌, length, get_or, drop, Some, None, sym, refl, ap, ◌∙◌, subst, arith}
+use Rattle.std.proofs.Common.{◌≡◌, ℕ, zero, suc, ◌+◌, ◌-◌, ◌^◌, ◌<◌, ◌≤◌, true, ◌≢◌, List, [], ◌∷◌, length, get_or, drop, Some, None, sym, refl, ap, ◌∙◌, subst, arith, is_some}
 use Rattle.std.proofs.lemmas.Nat.{pow_pos, pow_below}
 use Rattle.std.proofs.lemmas.Bool.{false≢true}
 use Rattle.network.specs.Layouts.{Layout}
 use Rattle.network.specs.Bounds.{others, placed, root, sets, all_others}
-use Rattle.labelling.specs.declared.kinds.Label.{Label}
 use Rattle.labelling.specs.declared.kinds.Way.{Way}
 use Rattle.labelling.specs.declared.kinds.Size.{Size}
 use Rattle.labelling.specs.declared.kinds.Back.TheVariants.{Start}
 use Rattle.labelling.specs.declared.kinds.Outcome.{Outcome}
 use Rattle.labelling.specs.declared.kinds.Outcome.TheVariants.{Finished, NoneWaits, Stopped}
-use Rattle.labelling.specs.Tables.{Rule, Tables, codes, code_of, label_at, turn_at, no_label, no_way, least_waiting}
+use Rattle.labelling.specs.Tables.{Rule, Tables, codes, code_of, reached_at, label_at, turn_at, no_way, least_waiting}
 use Rattle.labelling.specs.Offers.{offered}
 use Rattle.labelling.specs.Runs.{Ends}
 use Rattle.labelling.specs.Forks.{Closed}
@@ -41,15 +40,15 @@ getd_rest (x ∷ xs) k = refl
 
 -- ---- blank tables
 module _ {K : Type 0} (r : Rule K) (t : Tables K) where
-  pub blank_label : (c : ℕ) → c < codes r.size → label_at r (blank r t) c ≡ no_label r
-  blank_label c lt = getd_wiped (no_label r) (codes r.size) t.labels c (no_label r) lt
+  pub blank_label : (c : ℕ) → c < codes r.size → label_at (blank r t) c ≡ None
+  blank_label c lt = getd_wiped None (codes r.size) t.labels c None lt
 
   pub blank_turn : (c : ℕ) → c < codes r.size → turn_at (blank r t) c ≡ 0
   blank_turn c lt = ap (λ (w : Way). w.turn) (getd_wiped no_way (codes r.size) t.ways c no_way lt)
 
-  unreached : {G : Type 0} (v I : ℕ) → v < r.size.junctions → I < r.size.sets → (label_at r (blank r t) (code_of r.size v I)).reached ≡ true → G
+  unreached : {G : Type 0} (v I : ℕ) → v < r.size.junctions → I < r.size.sets → reached_at (blank r t) (code_of r.size v I) ≡ true → G
   unreached v I vn In h =
-      absurd (false≢true (ap (λ (x : Label K). x.reached) (sym (blank_label (code_of r.size v I) (code_within r.size v I vn In))) ∙ h))
+      absurd (false≢true (ap is_some (sym (blank_label (code_of r.size v I) (code_within r.size v I vn In))) ∙ h))
 
   pub blank_traced : (l : Layout K) → Traced r l 0 (blank r t)
   blank_traced l = record {
@@ -114,10 +113,10 @@ module _ {K : Type 0} (r : Rule K) (l : Layout K) (is : r.size ≡ size_of l) (e
     kept_blank = record {
       traced = blank_traced r t l;
       long = record {
-        labels = let e = length_wiped (no_label r) (codes r.size) t.labels in-labels in omega arith;
+        labels = let e = length_wiped None (codes r.size) t.labels in-labels in omega arith;
         ways = let e = length_wiped no_way (codes r.size) t.ways in_ways in omega arith;
       };
-      labels_long = length_wiped (no_label r) (codes r.size) t.labels in-labels;
+      labels_long = length_wiped None (codes r.size) t.labels in-labels;
       ways_long = length_wiped no_way (codes r.size) t.ways in_ways;
       goal = blank_turn r t (goal_of l) goal_within;
     }

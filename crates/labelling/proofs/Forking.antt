@@ -2,27 +2,26 @@
 use Rattle.std.proofs.Common.{◌≡◌, ℕ, zero, suc, ◌<◌, ◌≤◌, min, Bool, true, false, cond, eqb, Option, sym, refl, ap, ◌∙◌, ⊎_elim, arith}
 use lib.Bits.{bit_and}
 use Rattle.std.proofs.lemmas.Bool.{cases_lt, cond-true, cond-false, eq-eqb, ne_eqb}
-use Rattle.labelling.specs.declared.kinds.Label.{Label}
 use Rattle.labelling.specs.declared.kinds.Place.{Place}
-use Rattle.labelling.specs.Tables.{Rule, sum_of, Tables, code_of, label_at, turn_at}
+use Rattle.labelling.specs.Tables.{Rule, sum_of, Tables, code_of, label_cost, turn_at}
 use Rattle.labelling.specs.Forks.{joined, fork, forks_to}
 
-pub fork_joined : {K : Type 0} (r : Rule K) (t : Tables K) (from : Place K) (j code : ℕ) (l : Label K) (o : Option K) → code ≡ code_of r.size from.v j → (j ≡ 0 → ⊥) → bit_and from.set j ≡ 0 → (turn_at t code ≡ 0 → ⊥) → l ≡ label_at r t code → o ≡ sum_of r from.cost l.cost → joined r t from j o ≡ fork r from j t
+pub fork_joined : {K : Type 0} (r : Rule K) (t : Tables K) (from : Place K) (j code : ℕ) (l : K) (o : Option K) → code ≡ code_of r.size from.v j → (j ≡ 0 → ⊥) → bit_and from.set j ≡ 0 → (turn_at t code ≡ 0 → ⊥) → l ≡ label_cost r t code → o ≡ sum_of r from.cost l → joined r t from j o ≡ fork r from j t
 fork_joined r t from j code l o here some apart settled is-l is-o =
     let n = code_of r.size from.v j in
-    let inner = joined r t from j (sum_of r from.cost (label_at r t n).cost) in
+    let inner = joined r t from j (sum_of r from.cost (label_cost r t n)) in
     sym
     (cond-false (eqb j 0) _ _ (ne_eqb j 0 some)
     ∙ cond-true (eqb (bit_and from.set j) 0) (cond (eqb (turn_at t n) 0) t inner) t (eq-eqb _ 0 apart)
     ∙ cond-false (eqb (turn_at t n) 0) t inner (ne_eqb _ 0 (λ z. settled (ap (turn_at t) here ∙ z)))
-    ∙ ap (λ c. joined r t from j (sum_of r from.cost (label_at r t c).cost)) (sym here)
-    ∙ ap (λ x. joined r t from j (sum_of r from.cost x.cost)) (sym is-l)
+    ∙ ap (λ c. joined r t from j (sum_of r from.cost (label_cost r t c))) (sym here)
+    ∙ ap (λ x. joined r t from j (sum_of r from.cost x)) (sym is-l)
     ∙ ap (joined r t from j) (sym is-o))
 
 -- a set that shares an outlet changes nothing
 fork_shares : {K : Type 0} (r : Rule K) (from : Place K) (j : ℕ) (t : Tables K) → (bit_and from.set j ≡ 0 → ⊥) → fork r from j t ≡ t
 fork_shares r from j t h =
-    ap (λ b. cond (eqb j 0) t (cond b (cond (eqb (turn_at t (code_of r.size from.v j)) 0) t (joined r t from j (sum_of r from.cost (label_at r t (code_of r.size from.v j)).cost))) t)) (ne_eqb _ 0 h)
+    ap (λ b. cond (eqb j 0) t (cond b (cond (eqb (turn_at t (code_of r.size from.v j)) 0) t (joined r t from j (sum_of r from.cost (label_cost r t (code_of r.size from.v j))))) t)) (ne_eqb _ 0 h)
     ∙ either (eqb j 0)
   where
     either : (b : Bool) → cond b t t ≡ t

@@ -1,7 +1,6 @@
 -- One more turn of the labelling, and its three ends. Assumes nothing.
 use Rattle.std.proofs.Common.{◌≡◌, ℕ, suc, ◌+◌, Bool, cond, eqb, List, Some, None, Option, sym, ap, ◌∙◌, subst}
 use Rattle.std.proofs.lemmas.Bool.{cond-true, cond-false, eq-eqb, ne_eqb}
-use Rattle.labelling.specs.declared.kinds.Label.{Label}
 use Rattle.labelling.specs.declared.kinds.Way.{Way}
 use Rattle.labelling.specs.declared.kinds.Outcome.{Outcome}
 use Rattle.labelling.specs.declared.kinds.Outcome.TheVariants.{Finished, NoneWaits}
@@ -43,9 +42,9 @@ module _ {K : Type 0} (r : Rule K) (marks : List Bool) (runs : List (Run K)) (go
         ∙ by_made (Some p) h
 
 -- the same, where ways meet
-pub ready_moved : {K : Type 0} (r : Rule K) {ls ls' : List (Label K)} {ws ws' : List Way} {ks ks' : List (Option K)} → ls ≡ ls' → ws ≡ ws' → ks ≡ ks' → Ready r (tables ls' ws') ks' → Ready r (tables ls ws) ks
+pub ready_moved : {K : Type 0} (r : Rule K) {ls ls' : List (Option K)} {ws ws' : List Way} {ks ks' : List (Option K)} → ls ≡ ls' → ws ≡ ws' → ks ≡ ks' → Ready r (tables ls' ws') ks' → Ready r (tables ls ws) ks
 ready_moved r {ls} {ls'} {ws} {ws'} {ks} {ks'} p q s h =
     subst (λ x. Ready r (tables x ws) ks) (sym p) (subst (λ x. Ready r (tables ls' x) ks) (sym q) (subst (Ready r (tables ls' ws')) (sym s) h))
 
-pub ended_moved : {K : Type 0} {ls ls' : List (Label K)} {ws ws' : List Way} {o o' : Outcome K} {n n' : ℕ} → ls ≡ ls' → ws ≡ ws' → o ≡ o' → n ≡ n' → ended o n (tables ls ws) ≡ ended o' n' (tables ls' ws')
+pub ended_moved : {K : Type 0} {ls ls' : List (Option K)} {ws ws' : List Way} {o o' : Outcome K} {n n' : ℕ} → ls ≡ ls' → ws ≡ ws' → o ≡ o' → n ≡ n' → ended o n (tables ls ws) ≡ ended o' n' (tables ls' ws')
 ended_moved p q s u = cc

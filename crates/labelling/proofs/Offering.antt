@@ -1,27 +1,26 @@
 -- A kept candidate keeps the queue and the tables together. Assumes nothing.
-use Rattle.std.proofs.Common.{◌≡◌, ℕ, ◌+◌, ◌/◌, ◌%◌, ◌<◌, ◌≤◌, Bool, true, false, cond, eqb, ltb, ◌≢◌, List, length, get_or, Some, None, Option, sym, refl, ap, ◌∙◌, subst, ⊎_elim, arith}
+use Rattle.std.proofs.Common.{◌≡◌, ℕ, ◌+◌, ◌/◌, ◌%◌, ◌<◌, ◌≤◌, Bool, true, false, cond, eqb, ltb, ◌≢◌, List, length, get_or, Some, None, Option, sym, refl, ap, ◌∙◌, subst, ⊎_elim, arith, is_some, unwrap_or}
 use lib.Arith.{digits_lt, digits_div, digits_mod}
 use Rattle.std.proofs.lemmas.List.{length-set, get_or-set_same, get_or-set_other}
 use Rattle.std.proofs.lemmas.Bool.{cases_eq, cond-true, cond-false, lt-ltb}
 use Rattle.network.specs.Costs.{Laws}
 use Rattle.queue.specs.Waits.{lowered, put_in}
-use Rattle.labelling.specs.declared.kinds.Label.{Label}
 use Rattle.labelling.specs.declared.kinds.Back.{Back}
 use Rattle.labelling.specs.declared.kinds.Place.{Place}
 use Rattle.labelling.specs.declared.kinds.Size.{Size}
-use Rattle.labelling.specs.Tables.{Rule, sum_of, Tables, codes, code_of, label_at, turn_at, key_at, no_way, Ready}
+use Rattle.labelling.specs.Tables.{Rule, sum_of, Tables, codes, code_of, label_cost, reached_at, label_at, turn_at, key_at, no_way, Ready}
 use Rattle.labelling.specs.Offers.{improves, written, keyed, offered}
 
 pub code_within : (s : Size) (v i : ℕ) → v < s.junctions → i < s.sets → code_of s v i < codes s
 code_within s v i p q = digits_lt p q
 
 -- the key of a label at the code c, settled in the turn n
-abbrev pub key_by : {K : Type 0} → Rule K → ℕ → ℕ → Label K → Option K
+abbrev pub key_by : {K : Type 0} → Rule K → ℕ → ℕ → Option K → Option K
 key_by r c n l =
-    cond (cond (ltb c (codes r.size)) (cond (eqb n 0) l.reached false) false) (sum_of r l.cost (r.bound (c / r.size.sets) (c % r.size.sets))) None
+    cond (cond (ltb c (codes r.size)) (cond (eqb n 0) (is_some l) false) false) (sum_of r (unwrap_or l r.kind.zero) (r.bound (c / r.size.sets) (c % r.size.sets))) None
 
-pub key_same : {K : Type 0} (r : Rule K) (t t' : Tables K) (c : ℕ) → turn_at t c ≡ turn_at t' c → label_at r t c ≡ label_at r t' c → key_at r t c ≡ key_at r t' c
-key_same r t t' c p q = ap (λ n. key_by r c n (label_at r t c)) p ∙ ap (λ l. key_by r c (turn_at t' c) l) q
+pub key_same : {K : Type 0} (r : Rule K) (t t' : Tables K) (c : ℕ) → turn_at t c ≡ turn_at t' c → label_at t c ≡ label_at t' c → key_at r t c ≡ key_at r t' c
+key_same r t t' c p q = ap (λ n. key_by r c n (label_at t c)) p ∙ ap (λ l. key_by r c (turn_at t' c) l) q
 
 module _ {K : Type 0} (r : Rule K) (t : Tables K) (c : ℕ) (k : K) (b : Back) where
   pub key_other : (d : ℕ) → d ≢ c → key_at r (written t c k b) d ≡ key_at r t d
@@ -30,7 +29,7 @@ module _ {K : Type 0} (r : Rule K) (t : Tables K) (c : ℕ) (k : K) (b : Back) w
 
   pub key_here : c < codes r.size → c < length t.labels → c < length t.ways → key_at r (written t c k b) c ≡ sum_of r k (r.bound (c / r.size.sets) (c % r.size.sets))
   key_here in_codes in-labels in_ways =
-      ap (λ w. key_by r c w.turn (label_at r (written t c k b) c)) (get_or-set_same t.ways c _ no_way in_ways)
+      ap (λ w. key_by r c w.turn (label_at (written t c k b) c)) (get_or-set_same t.ways c _ no_way in_ways)
       ∙ ap (λ l. key_by r c 0 l) (get_or-set_same t.labels c _ _ in-labels)
       ∙ ap (λ y. cond (cond y true false) (sum_of r k (r.bound (c / r.size.sets) (c % r.size.sets))) None) (lt-ltb c (codes r.size) in_codes)
 
@@ -50,9 +49,9 @@ module _ {K : Type 0} (r : Rule K) (laws : Laws r.kind) (t : Tables K) (c : ℕ)
   pub falls : (key : K) → sum_of r k (r.bound (c / r.size.sets) (c % r.size.sets)) ≡ Some key → improves r t c k ≡ true → lowered r.kind.below (key_at r t c) key ≡ Some key
   falls key e h =
       let est = r.bound (c / r.size.sets) (c % r.size.sets) in
-      let l = (label_at r t c).cost in
+      let l = label_cost r t c in
       let is : r.kind.plus k est ≡ key = some_of (r.fits (r.kind.bulk k + r.kind.bulk est)) (r.kind.plus k est) key e in
-      low r.kind.below key (r.kind.plus l est) k l (ltb c (codes r.size)) (eqb (turn_at t c) 0) (label_at r t c).reached (r.fits (r.kind.bulk l + r.kind.bulk est)) (ap (λ x. r.kind.below x (r.kind.plus l est)) (sym is) ∙ laws.shift k l est) h
+      low r.kind.below key (r.kind.plus l est) k l (ltb c (codes r.size)) (eqb (turn_at t c) 0) (reached_at t c) (r.fits (r.kind.bulk l + r.kind.bulk est)) (ap (λ x. r.kind.below x (r.kind.plus l est)) (sym is) ∙ laws.shift k l est) h
 
   pub written_ready : (ks : List (Option K)) (b : Back) (key : K) → c < codes r.size → sum_of r k (r.bound (c / r.size.sets) (c % r.size.sets)) ≡ Some key → improves r t c k ≡ true → Ready r t ks → Ready r (written t c k b) (put_in r.kind.below ks c key)
   written_ready ks b key within e h ready = record {

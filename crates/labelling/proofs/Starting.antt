@@ -5,10 +5,9 @@ use lib.ListN.{length-replicate}
 use Rattle.std.proofs.lemmas.List.{drop_more, drop_all}
 use Rattle.std.proofs.lemmas.Bool.{cases_lt}
 use Rattle.labelling.specs.declared.kinds.Back.TheVariants.{Start}
-use Rattle.labelling.specs.declared.kinds.Label.{Label}
 use Rattle.network.specs.declared.run.Run.{Run}
 use Rattle.labelling.specs.declared.kinds.Way.{Way}
-use Rattle.labelling.specs.Tables.{Rule, Tables, tables, codes, code_of, turn_at, no_label, no_way, Ready}
+use Rattle.labelling.specs.Tables.{Rule, Tables, tables, codes, code_of, turn_at, no_way, Ready}
 use Rattle.labelling.specs.Offers.{offered}
 use Rattle.labelling.specs.Forks.{Closed}
 use Rattle.labelling.specs.Starts.{wiped, blank, started, Within}
@@ -52,14 +51,14 @@ unreached false b o = refl
 -- nothing waits in blank tables, nor in a cleared queue
 pub blank_ready : {K : Type 0} (r : Rule K) (t : Tables K) (n : ℕ) → codes r.size ≤ length t.labels → codes r.size ≤ length t.ways → codes r.size ≤ n → Ready r (blank r t) (replicate n None)
 blank_ready r t n in-labels in_ways in-waits = record {
-  labels_long = subst (λ m. codes r.size ≤ m) (sym (length_wiped (no_label r) (codes r.size) t.labels in-labels)) in-labels;
+  labels_long = subst (λ m. codes r.size ≤ m) (sym (length_wiped None (codes r.size) t.labels in-labels)) in-labels;
   ways_long = subst (λ m. codes r.size ≤ m) (sym (length_wiped no_way (codes r.size) t.ways in_ways)) in_ways;
   waits_long = subst (λ m. codes r.size ≤ m) (sym (length-replicate n None)) in-waits;
   matches = λ c.
       none_at n c ∙ sym
       (⊎_elim
       (λ lt.
-      ap (λ l. key_by r c (turn_at (blank r t) c) l) (getd_wiped (no_label r) (codes r.size) t.labels c (no_label r) lt)
+      ap (λ l. key_by r c (turn_at (blank r t) c) l) (getd_wiped None (codes r.size) t.labels c None lt)
       ∙ unreached (ltb c (codes r.size)) (eqb (turn_at (blank r t) c) 0) _)
       (λ ge. key_past r (blank r t) c ge)
       (cases_lt c (codes r.size)));
@@ -80,8 +79,8 @@ closed_sets n k e = subst Closed (sym e) (or_lt k)
 
 -- the whole, by what its steps left
 module _ {K : Type 0} (r : Rule K) (t : Tables K) where
-  pub blank_is : (ls : List (Label K)) (ws : List Way) → ls ≡ wiped (codes r.size) (no_label r) t.labels → ws ≡ wiped (codes r.size) no_way t.ways → tables ls ws ≡ blank r t
-  blank_is ls ws p q = ap (λ x. tables x ws) p ∙ ap (λ x. tables (wiped (codes r.size) (no_label r) t.labels) x) q
+  pub blank_is : (ls : List (Option K)) (ws : List Way) → ls ≡ wiped (codes r.size) None t.labels → ws ≡ wiped (codes r.size) no_way t.ways → tables ls ws ≡ blank r t
+  blank_is ls ws p q = ap (λ x. tables x ws) p ∙ ap (λ x. tables (wiped (codes r.size) None t.labels) x) q
 
   pub labelled_by : (marks : List Bool) (runs : List (Run K)) (root : ℕ) (others : List ℕ) (limit goal : ℕ) (t1 t2 : Tables K) (x : Labelled K) → t1 ≡ blank r t → t2 ≡ started r 0 others t1 → goal ≡ code_of r.size root (r.size.sets - 1) → x ≡ labelled r marks runs goal limit 0 t2 → x ≡ labelled r marks runs (code_of r.size root (r.size.sets - 1)) limit 0 (started r 0 others (blank r t))
   labelled_by marks runs root others limit goal t1 t2 x is-t1 is-t2 is-goal is_x =

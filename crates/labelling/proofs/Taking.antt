@@ -10,7 +10,7 @@ use Rattle.labelling.specs.declared.kinds.Way.{Way}
 use Rattle.labelling.specs.declared.kinds.Place.{Place}
 use Rattle.network.specs.declared.run.Run.{Run}
 use Rattle.labelling.specs.declared.kinds.Size.{Size}
-use Rattle.labelling.specs.Tables.{Rule, sum_of, Tables, codes, label_at, turn_at, key_at, no_way, with_key, least_to, least_waiting, Ready}
+use Rattle.labelling.specs.Tables.{Rule, sum_of, Tables, codes, label_cost, reached_at, label_at, turn_at, key_at, no_way, with_key, least_to, least_waiting, Ready}
 use Rattle.labelling.specs.Runs.{runs_offered}
 use Rattle.labelling.specs.Forks.{forks_offered}
 use Rattle.labelling.specs.Turns.{place_at, settled, turned_at, turned, took}
@@ -19,7 +19,7 @@ use Rattle.labelling.proofs.Offering.{key_by, key_same}
 -- nothing waits past the codes
 pub key_past : {K : Type 0} (r : Rule K) (t : Tables K) (c : ℕ) → codes r.size ≤ c → key_at r t c ≡ None
 key_past r t c ge =
-    ap (λ y. cond (cond y (cond (eqb (turn_at t c) 0) (label_at r t c).reached false) false) (sum_of r (label_at r t c).cost (r.bound (c / r.size.sets) (c % r.size.sets))) None) (le-ltb c (codes r.size) ge)
+    ap (λ y. cond (cond y (cond (eqb (turn_at t c) 0) (reached_at t c) false) false) (sum_of r (label_cost r t c) (r.bound (c / r.size.sets) (c % r.size.sets))) None) (le-ltb c (codes r.size) ge)
 
 least_from : {K : Type 0} (below : K → K → Bool) (ks : List (Option K)) (n : ℕ) (o : Option (K × ℕ)) → ((d : ℕ) → n ≤ d → get_or ks d None ≡ None) → LeastTo below ks n o → Least below ks o
 least_from below ks n None past h = λ d. ⊎_elim (λ lt. h d lt) (λ ge. past d ge) (cases_lt d n)
@@ -52,8 +52,8 @@ module _ {K : Type 0} (r : Rule K) (laws : Laws r.kind) where
     key_settled : (c n : ℕ) → 0 < n → c < length t.ways → key_at r (settled t c n) c ≡ None
     key_settled c n pos lt =
         let w : Way = record { turn = n; back = (get_or t.ways c no_way).back } in
-        ap (λ (x : Way). key_by r c x.turn (label_at r t c)) (get_or-set_same t.ways c w no_way lt)
-        ∙ ap (λ y. cond (cond (ltb c (codes r.size)) (cond y (label_at r t c).reached false) false) (sum_of r (label_at r t c).cost (r.bound (c / r.size.sets) (c % r.size.sets))) None) (ne_eqb n 0 (λ z. omega arith))
+        ap (λ (x : Way). key_by r c x.turn (label_at t c)) (get_or-set_same t.ways c w no_way lt)
+        ∙ ap (λ y. cond (cond (ltb c (codes r.size)) (cond y (reached_at t c) false) false) (sum_of r (label_cost r t c) (r.bound (c / r.size.sets) (c % r.size.sets))) None) (ne_eqb n 0 (λ z. omega arith))
         ∙ neither (ltb c (codes r.size)) _
       where
         neither : (b : Bool) (o : Option K) → cond (cond b false false) o None ≡ None

@@ -1,12 +1,11 @@
 -- A candidate and a settled code keep the traces. Assumes nothing.
-use Rattle.std.proofs.Common.{◌≡◌, ℕ, ◌+◌, ◌<◌, ◌≤◌, true, length, sym, refl, ap, ◌∙◌, subst, ⊎_elim, arith}
+use Rattle.std.proofs.Common.{◌≡◌, ℕ, ◌+◌, ◌<◌, ◌≤◌, true, length, sym, refl, ap, ◌∙◌, subst, ⊎_elim, arith, Option, is_some, unwrap_or}
 use lib.Bits.{or_disjoint}
 use Rattle.std.proofs.lemmas.Bool.{cases_eq}
 use Rattle.network.specs.Layouts.{Layout}
-use Rattle.labelling.specs.declared.kinds.Label.{Label}
 use Rattle.labelling.specs.declared.kinds.Back.{Back}
 use Rattle.labelling.specs.declared.kinds.Place.{Place}
-use Rattle.labelling.specs.Tables.{Rule, sum_of, Tables, code_of, label_at, turn_at}
+use Rattle.labelling.specs.Tables.{Rule, sum_of, Tables, code_of, label_cost, reached_at, label_at, turn_at}
 use Rattle.labelling.specs.Offers.{written, offered}
 use Rattle.labelling.specs.Turns.{settled}
 use Rattle.labelling.specs.Tracing.{Earlier, Trace, from_outlet, from_run, from_fork, Traced}
@@ -16,16 +15,16 @@ use Rattle.labelling.proofs.Writing.{code_same, back_at, back_other, label_other
 module _ {K : Type 0} (r : Rule K) (l : Layout K) (t t' : Tables K) where
   pub trace_moved : (v I : ℕ) → v < r.size.junctions → I < r.size.sets
       → ((w J : ℕ) → w < r.size.junctions → J < r.size.sets → Earlier t (code_of r.size v I) (code_of r.size w J) → Earlier t' (code_of r.size v I) (code_of r.size w J))
-      → ((d : ℕ) → (turn_at t d ≡ 0 → ⊥) → label_at r t' d ≡ label_at r t d)
+      → ((d : ℕ) → (turn_at t d ≡ 0 → ⊥) → label_at t' d ≡ label_at t d)
       → (cost : K) (b : Back) → Trace r l t v I cost b → Trace r l t' v I cost b
   trace_moved v I vn In early same cost b (from_outlet i lt is-v is-I is_c) = from_outlet i lt is-v is-I is_c
   trace_moved v I vn In early same cost b (from_run w k link wn e s) =
-      from_run w k link wn (early w I wn In e) (ap (λ (x : Label K). sum_of r x.cost k) (same _ e.settled) ∙ s)
+      from_run w k link wn (early w I wn In e) (ap (λ (x : Option K). sum_of r (unwrap_or x r.kind.zero) k) (same _ e.settled) ∙ s)
   trace_moved v I vn In early same cost b (from_fork {J = J} I' a c apart whole e f s) =
       let sum = or_disjoint I' J apart in
       from_fork I' a c apart whole (early v I' vn (omega arith) e) (early v J vn (omega arith) f)
-      (ap (λ (x : Label K). sum_of r x.cost (label_at r t' (code_of r.size v J)).cost) (same _ e.settled)
-      ∙ ap (λ (x : Label K). sum_of r (label_at r t (code_of r.size v I')).cost x.cost) (same _ f.settled) ∙ s)
+      (ap (λ (x : Option K). sum_of r (unwrap_or x r.kind.zero) (label_cost r t' (code_of r.size v J))) (same _ e.settled)
+      ∙ ap (λ (x : Option K). sum_of r (label_cost r t (code_of r.size v I')) (unwrap_or x r.kind.zero)) (same _ f.settled) ∙ s)
 
   earlier_grown : Grown r t t' → (c d : ℕ) → Earlier t c d → Earlier t' c d
   earlier_grown g c d e = record {
@@ -38,7 +37,7 @@ module _ {K : Type 0} (r : Rule K) (l : Layout K) (t t' : Tables K) where
 
 -- the trace of a label, as the tables have it
 abbrev Arrived : {K : Type 0} → Rule K → Layout K → Tables K → ℕ → ℕ → Type 0
-Arrived r l t v I = Trace r l t v I (label_at r t (code_of r.size v I)).cost (back_at t (code_of r.size v I))
+Arrived r l t v I = Trace r l t v I (label_cost r t (code_of r.size v I)) (back_at t (code_of r.size v I))
 
 -- ---- a candidate that has a trace
 module _ {K : Type 0} (r : Rule K) (l : Layout K) (n : ℕ) (t : Tables K) (traced : Traced r l n t) where
@@ -56,23 +55,23 @@ module _ {K : Type 0} (r : Rule K) (l : Layout K) (n : ℕ) (t : Tables K) (trac
 
     new : Arrived r l t' w J
     new =
-        subst (λ x. Trace r l t' w J x (back_at t' c)) (sym (ap (λ (x : Label K). x.cost) (label_here r t c k b in-labels)))
+        subst (λ x. Trace r l t' w J x (back_at t' c)) (sym (ap (λ x. unwrap_or x r.kind.zero) (label_here r t c k b in-labels)))
         (subst (λ x. Trace r l t' w J k x) (sym (back_here r t c k b in_ways)) (trace_grown r l t t' grown w J wn Jn k b trace))
 
-    old : (v I : ℕ) → v < r.size.junctions → I < r.size.sets → (code_of r.size v I ≡ c → ⊥) → (label_at r t' (code_of r.size v I)).reached ≡ true → Arrived r l t' v I
+    old : (v I : ℕ) → v < r.size.junctions → I < r.size.sets → (code_of r.size v I ≡ c → ⊥) → reached_at t' (code_of r.size v I) ≡ true → Arrived r l t' v I
     old v I vn In ne h =
         let d = code_of r.size v I in
         let e = label_other r t c k b d ne in
-        subst (λ (x : Label K). Trace r l t' v I x.cost (back_at t' d)) (sym e)
-        (subst (λ x. Trace r l t' v I (label_at r t d).cost x) (sym (back_other r t c k b d ne))
-        (trace_grown r l t t' grown v I vn In _ _ (traced.trace v I vn In (ap (λ (x : Label K). x.reached) (sym e) ∙ h))))
+        subst (λ (x : Option K). Trace r l t' v I (unwrap_or x r.kind.zero) (back_at t' d)) (sym e)
+        (subst (λ x. Trace r l t' v I (label_cost r t d) x) (sym (back_other r t c k b d ne))
+        (trace_grown r l t t' grown v I vn In _ _ (traced.trace v I vn In (ap is_some (sym e) ∙ h))))
 
     pub written_traced : Traced r l n t'
     written_traced = record {
       some = λ v I vn In h.
           ⊎_elim
           (λ e z. some (sym (code_same r.size v w I J In Jn e).1 ∙ z))
-          (λ ne. traced.some v I vn In (ap (λ (x : Label K). x.reached) (sym (label_other r t c k b _ ne)) ∙ h))
+          (λ ne. traced.some v I vn In (ap is_some (sym (label_other r t c k b _ ne)) ∙ h))
           (cases_eq (code_of r.size v I) c);
       trace = λ v I vn In h.
           ⊎_elim
@@ -81,8 +80,8 @@ module _ {K : Type 0} (r : Rule K) (l : Layout K) (n : ℕ) (t : Tables K) (trac
           (cases_eq (code_of r.size v I) c);
       reached = λ v I vn In s.
           ⊎_elim
-          (λ e. ap (λ d. (label_at r t' d).reached) e ∙ ap (λ (x : Label K). x.reached) (label_here r t c k b in-labels))
-          (λ ne. ap (λ (x : Label K). x.reached) (label_other r t c k b _ ne) ∙ traced.reached v I vn In (λ z. s (grown.turns _ ∙ z)))
+          (λ e. ap (λ d. reached_at t' d) e ∙ ap is_some (label_here r t c k b in-labels))
+          (λ ne. ap is_some (label_other r t c k b _ ne) ∙ traced.reached v I vn In (λ z. s (grown.turns _ ∙ z)))
           (cases_eq (code_of r.size v I) c);
       turns = λ v I vn In. subst (λ m. m ≤ n) (sym (grown.turns (code_of r.size v I))) (traced.turns v I vn In);
     }
@@ -95,7 +94,7 @@ module _ {K : Type 0} (r : Rule K) (l : Layout K) (n : ℕ) (t : Tables K) (trac
       (λ h. let fresh = improves_fresh r t (code_of r.size p.v p.set) p.cost h in written_traced p.v p.set vn In some p.cost b in-labels in_ways fresh (trace fresh))
 
   -- ---- a code settled in the next turn
-  module _ (c : ℕ) (in_ways : c < length t.ways) (fresh : turn_at t c ≡ 0) (reached : (label_at r t c).reached ≡ true) where
+  module _ (c : ℕ) (in_ways : c < length t.ways) (fresh : turn_at t c ≡ 0) (reached : reached_at t c ≡ true) where
     abbrev s : Tables K
     s = settled t c (n + 1)
 
@@ -119,11 +118,11 @@ module _ {K : Type 0} (r : Rule K) (l : Layout K) (n : ℕ) (t : Tables K) (trac
     settled_traced = record {
       some = traced.some;
       trace = λ v I vn In h.
-          subst (λ x. Trace r l s v I (label_at r t (code_of r.size v I)).cost x) (sym (settled_back t c (n + 1) (code_of r.size v I) in_ways))
+          subst (λ x. Trace r l s v I (label_cost r t (code_of r.size v I)) x) (sym (settled_back t c (n + 1) (code_of r.size v I) in_ways))
           (trace_moved r l t s v I vn In (λ w J wn Jn. earlier_settled (code_of r.size v I) w J wn Jn) (λ d q. refl) _ _ (traced.trace v I vn In h));
       reached = λ v I vn In h.
           ⊎_elim
-          (λ e. ap (λ d. (label_at r t d).reached) e ∙ reached)
+          (λ e. ap (λ d. reached_at t d) e ∙ reached)
           (λ ne. traced.reached v I vn In (λ z. h (settled_other t c (n + 1) _ ne ∙ z)))
           (cases_eq (code_of r.size v I) c);
       turns = λ v I vn In.

@@ -1,16 +1,15 @@
 -- A turn keeps the traces. Assumes nothing.
-use Rattle.std.proofs.Common.{◌≡◌, ℕ, zero, suc, ◌+◌, ◌/◌, ◌%◌, ◌<◌, ◌≤◌, Bool, true, false, cond, eqb, ◌⊎◌, List, [], ◌∷◌, length, get_or, Some, None, Option, sym, refl, ap, ◌∙◌, subst, inl, inr, ⊎_elim, arith}
+use Rattle.std.proofs.Common.{◌≡◌, ℕ, zero, suc, ◌+◌, ◌/◌, ◌%◌, ◌<◌, ◌≤◌, Bool, true, false, cond, eqb, ◌⊎◌, List, [], ◌∷◌, length, get_or, Some, None, Option, sym, refl, ap, ◌∙◌, subst, inl, inr, ⊎_elim, arith, unwrap_or}
 use lib.Bits.{bit_and, bit_or, or_disjoint}
 use Rattle.std.proofs.lemmas.Nat.{div-add-mod'}
 use Rattle.std.proofs.lemmas.Bool.{cond_both, eqb-true, eqb-false, false≢true}
 use Rattle.network.specs.declared.run.Run.{Run}
 use Rattle.network.specs.Layouts.{Layout, picked, open_run}
 use Rattle.queue.proofs.Scan.{none≢some}
-use Rattle.labelling.specs.declared.kinds.Label.{Label}
 use Rattle.labelling.specs.declared.kinds.Back.{Back}
 use Rattle.labelling.specs.declared.kinds.Back.TheVariants.{Run as ByRun, Fork}
 use Rattle.labelling.specs.declared.kinds.Place.{Place}
-use Rattle.labelling.specs.Tables.{Rule, sum_of, Tables, codes, code_of, label_at, turn_at, least_waiting}
+use Rattle.labelling.specs.Tables.{Rule, sum_of, Tables, codes, code_of, label_cost, reached_at, turn_at, least_waiting}
 use Rattle.labelling.specs.Offers.{offered}
 use Rattle.labelling.specs.Runs.{other_end, led, along_to, along, runs_offered, Ends}
 use Rattle.labelling.specs.Forks.{joined, fork, forks_offered, Closed}
@@ -65,7 +64,7 @@ module _ {K : Type 0} (r : Rule K) (l : Layout K) (ends : Ends r.size.junctions 
       pub traced : Traced r l n t
       pub long : Long r t
       pub is_settled : turn_at t here ≡ 0 → ⊥
-      pub costs : (label_at r t here).cost ≡ from.cost
+      pub costs : label_cost r t here ≡ from.cost
 
     pub going_offered : (t : Tables K) (p : Place K) (b : Back) → Going t → p.v < r.size.junctions → p.set < r.size.sets → (p.set ≡ 0 → ⊥)
         → (turn_at t (code_of r.size p.v p.set) ≡ 0 → Trace r l t p.v p.set p.cost b) → Going (offered r t p b)
@@ -78,7 +77,7 @@ module _ {K : Type 0} (r : Rule K) (l : Layout K) (ends : Ends r.size.junctions 
           traced = offered_traced r l n t go.traced p b pn qn ne (omega arith) (omega arith) trace;
           long = long_grown r t (offered r t p b) g go.long;
           is_settled = λ z. go.is_settled (sym (g.turns here) ∙ z);
-          costs = ap (λ (x : Label K). x.cost) (g.labels here go.is_settled) ∙ go.costs;
+          costs = ap (λ x. unwrap_or x r.kind.zero) (g.labels here go.is_settled) ∙ go.costs;
         }
 
     from_here : (t : Tables K) → Going t → (c : ℕ) → turn_at t c ≡ 0 → Earlier t c here
@@ -116,17 +115,17 @@ module _ {K : Type 0} (r : Rule K) (l : Layout K) (ends : Ends r.size.junctions 
         cond_both (eqb j 0) _ _ Going (λ z. go)
         (λ ne. cond_both (eqb (bit_and from.set j) 0) _ _ Going
         (λ apart. cond_both (eqb (turn_at t (code_of r.size from.v j)) 0) _ _ Going (λ z. go)
-        (λ s. join (eqb-false j 0 ne) (eqb-true _ 0 apart) (eqb-false _ 0 s) (sum_of r from.cost (label_at r t (code_of r.size from.v j)).cost) refl))
+        (λ s. join (eqb-false j 0 ne) (eqb-true _ 0 apart) (eqb-false _ 0 s) (sum_of r from.cost (label_cost r t (code_of r.size from.v j))) refl))
         (λ z. go))
       where
-        join : (j ≡ 0 → ⊥) → bit_and from.set j ≡ 0 → (turn_at t (code_of r.size from.v j) ≡ 0 → ⊥) → (o : Option K) → sum_of r from.cost (label_at r t (code_of r.size from.v j)).cost ≡ o → Going (joined r t from j o)
+        join : (j ≡ 0 → ⊥) → bit_and from.set j ≡ 0 → (turn_at t (code_of r.size from.v j) ≡ 0 → ⊥) → (o : Option K) → sum_of r from.cost (label_cost r t (code_of r.size from.v j)) ≡ o → Going (joined r t from j o)
         join ne apart s None e = go
         join ne apart s (Some k) e =
             let sum = or_disjoint from.set j apart in
             going_offered t (record { v = from.v; set = bit_or from.set j; cost = k }) (Fork j) go vn (closed from.set j In jn) (λ z. some (omega arith))
             (λ fresh. from_fork from.set some ne apart refl
             (from_here t go (code_of r.size from.v (bit_or from.set j)) fresh) (record { settled = s; sooner = λ h. absurd (h fresh) })
-            (ap (λ m. sum_of r m (label_at r t (code_of r.size from.v j)).cost) go.costs ∙ e))
+            (ap (λ m. sum_of r m (label_cost r t (code_of r.size from.v j))) go.costs ∙ e))
 
     pub going_forks : (t : Tables K) → Going t → Going (forks_offered r from t)
     going_forks t go = forks_all_kept r from (λ i t. Going t) r.size.sets going_fork t go
@@ -146,7 +145,7 @@ module _ {K : Type 0} (r : Rule K) (l : Layout K) (ends : Ends r.size.junctions 
     taken_code = div-add-mod' p.1 r.size.sets
 
     pub taken_some : p.1 % r.size.sets ≡ 0 → ⊥
-    taken_some = traced.some (p.1 / r.size.sets) (p.1 % r.size.sets) taken_v taken_set (ap (λ c. (label_at r t c).reached) taken_code ∙ waits.reached)
+    taken_some = traced.some (p.1 / r.size.sets) (p.1 % r.size.sets) taken_v taken_set (ap (λ c. reached_at t c) taken_code ∙ waits.reached)
 
     in_ways : p.1 < length t.ways
     in_ways = let w = waits.within in let h = long.ways in omega arith
@@ -159,7 +158,7 @@ module _ {K : Type 0} (r : Rule K) (l : Layout K) (ends : Ends r.size.junctions 
       long = record { labels = long.labels; ways = let e = settled_long t p.1 (n + 1) in let h = long.ways in omega arith };
       is_settled = λ z. let e : turn_at (settled t p.1 (n + 1)) p.1 ≡ n + 1 = settled_here t p.1 (n + 1) in_ways in
           let e' = ap (turn_at (settled t p.1 (n + 1))) taken_code in omega arith;
-      costs = ap (λ c. (label_at r t c).cost) taken_code;
+      costs = ap (λ c. label_cost r t c) taken_code;
     }
 
     pub going_end : Going (n + 1) (place_at r t p.1) taken_v taken_set taken_some (settled t p.1 (n + 1)) (turned r l.«open» l.runs (n + 1) t)

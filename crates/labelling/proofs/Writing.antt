@@ -7,7 +7,7 @@ use Rattle.labelling.specs.declared.kinds.Way.{Way}
 use Rattle.labelling.specs.declared.kinds.Back.{Back}
 use Rattle.labelling.specs.declared.kinds.Place.{Place}
 use Rattle.labelling.specs.declared.kinds.Size.{Size}
-use Rattle.labelling.specs.Tables.{Rule, sum_of, Tables, code_of, label_at, turn_at, no_label, no_way}
+use Rattle.labelling.specs.Tables.{Rule, sum_of, Tables, code_of, label_cost, reached_at, label_at, turn_at, no_way}
 use Rattle.labelling.specs.Offers.{improves, written, keyed, offered}
 use Rattle.labelling.specs.Turns.{settled}
 
@@ -27,7 +27,7 @@ module _ {K : Type 0} (r : Rule K) (t : Tables K) (c : ℕ) (k : K) (b : Back) w
   pub back_other : (d : ℕ) → d ≢ c → back_at (written t c k b) d ≡ back_at t d
   back_other d ne = ap (λ (w : Way). w.back) (get_or-set_other t.ways c d _ no_way ne)
 
-  pub label_other : (d : ℕ) → d ≢ c → label_at r (written t c k b) d ≡ label_at r t d
+  pub label_other : (d : ℕ) → d ≢ c → label_at (written t c k b) d ≡ label_at t d
   label_other d ne = get_or-set_other t.labels c d _ _ ne
 
   pub turn_here : c < length t.ways → turn_at (written t c k b) c ≡ 0
@@ -36,13 +36,13 @@ module _ {K : Type 0} (r : Rule K) (t : Tables K) (c : ℕ) (k : K) (b : Back) w
   pub back_here : c < length t.ways → back_at (written t c k b) c ≡ b
   back_here lt = ap (λ (w : Way). w.back) (get_or-set_same t.ways c (record { turn = 0; back = b }) no_way lt)
 
-  pub label_here : c < length t.labels → label_at r (written t c k b) c ≡ record { reached = true; cost = k }
-  label_here lt = get_or-set_same t.labels c (record { reached = true; cost = k }) (no_label r) lt
+  pub label_here : c < length t.labels → label_at (written t c k b) c ≡ Some k
+  label_here lt = get_or-set_same t.labels c (Some k) None lt
 
 -- the rows are as long as they were, turns are as they were, and so are the labels that are settled
 pub record Grown {K : Type 0} (r : Rule K) (t t' : Tables K) : Type 0 where
   pub turns : (d : ℕ) → turn_at t' d ≡ turn_at t d
-  pub labels : (d : ℕ) → (turn_at t d ≡ 0 → ⊥) → label_at r t' d ≡ label_at r t d
+  pub labels : (d : ℕ) → (turn_at t d ≡ 0 → ⊥) → label_at t' d ≡ label_at t d
   pub labels_long : length t'.labels ≡ length t.labels
   pub ways_long : length t'.ways ≡ length t.ways
 
@@ -67,7 +67,7 @@ written_grown r t c k b lt fresh = record {
 
 -- an improvement is at a code that is not settled
 pub improves_fresh : {K : Type 0} (r : Rule K) (t : Tables K) (c : ℕ) (k : K) → improves r t c k ≡ true → turn_at t c ≡ 0
-improves_fresh r t c k h = eqb-true (turn_at t c) 0 (first (eqb (turn_at t c) 0) (cond (label_at r t c).reached (r.kind.below k (label_at r t c).cost) true) h)
+improves_fresh r t c k h = eqb-true (turn_at t c) 0 (first (eqb (turn_at t c) 0) (cond (reached_at t c) (r.kind.below k (label_cost r t c)) true) h)
   where
     first : (x y : Bool) → cond x y false ≡ true → x ≡ true
     first true y e = refl

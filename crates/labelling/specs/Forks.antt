@@ -2,7 +2,7 @@
 use Rattle.std.specs.Prelude.{ℕ, zero, suc, ◌<◌, cond, Some, None, Option, ◌==◌, bit_and, bit_or}
 use Rattle.labelling.specs.declared.kinds.Back.TheVariants.{Fork}
 use Rattle.labelling.specs.declared.kinds.Place.{Place}
-use Rattle.labelling.specs.Tables.{Rule, sum_of, Tables, code_of, label_at, turn_at}
+use Rattle.labelling.specs.Tables.{Rule, sum_of, Tables, code_of, label_cost, turn_at}
 use Rattle.labelling.specs.Offers.{offered}
 
 abbrev pub joined : {K : Type 0} → Rule K → Tables K → Place K → ℕ → Option K → Tables K
@@ -15,7 +15,7 @@ fork r from j t =
     cond (j == 0) t
     (cond (bit_and from.set j == 0)
     (cond (turn_at t (code_of r.size from.v j) == 0) t
-    (joined r t from j (sum_of r from.cost (label_at r t (code_of r.size from.v j)).cost)))
+    (joined r t from j (sum_of r from.cost (label_cost r t (code_of r.size from.v j)))))
     t)
 
 -- the candidates with the sets below n, in rising order

@@ -1,11 +1,11 @@
 -- Where a labelling starts, and the labelling of a layout. Assumes nothing.
-use Rattle.std.specs.Prelude.{ℕ, ◌+◌, ◌^◌, ◌<◌, List, [], ◌∷◌, ◌++◌, drop, replicate}
+use Rattle.std.specs.Prelude.{ℕ, ◌+◌, ◌^◌, ◌<◌, List, [], ◌∷◌, ◌++◌, drop, replicate, None}
 use Rattle.network.specs.Costs.{Kind}
 use Rattle.network.specs.Layouts.{Layout}
 use Rattle.network.specs.Bounds.{root, sets, all_others}
 use Rattle.labelling.specs.declared.kinds.Back.TheVariants.{Start}
 use Rattle.labelling.specs.declared.kinds.Size.{Size}
-use Rattle.labelling.specs.Tables.{Rule, rule, Tables, tables, codes, code_of, no_label, no_way}
+use Rattle.labelling.specs.Tables.{Rule, rule, Tables, tables, codes, code_of, no_way}
 use Rattle.labelling.specs.Offers.{offered}
 use Rattle.labelling.specs.Labelling.{Labelled, labelled}
 
@@ -27,7 +27,7 @@ wiped n x xs = replicate n x ++ drop n xs
 
 -- no label is reached, and none is settled
 abbrev pub blank : {K : Type 0} → Rule K → Tables K → Tables K
-blank r t = tables (wiped (codes r.size) (no_label r) t.labels) (wiped (codes r.size) no_way t.ways)
+blank r t = tables (wiped (codes r.size) None t.labels) (wiped (codes r.size) no_way t.ways)
 
 -- each outlet with its own place alone costs nothing
 abbrev pub started : {K : Type 0} → Rule K → ℕ → List ℕ → Tables K → Tables K

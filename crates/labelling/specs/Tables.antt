@@ -1,8 +1,7 @@
 -- The two tables of a labelling, and what waits in them. Assumes nothing.
-use Rattle.std.specs.Prelude.{◌≡◌, ℕ, zero, suc, ◌+◌, ◌*◌, ◌/◌, ◌%◌, ◌^◌, ◌≤◌, Bool, true, false, cond, List, length, get_or, Some, None, Option, ◌==◌, nat_le, nat_lt, slice_index_or}
+use Rattle.std.specs.Prelude.{◌≡◌, ℕ, zero, suc, ◌+◌, ◌*◌, ◌/◌, ◌%◌, ◌^◌, ◌≤◌, Bool, true, false, cond, List, length, get_or, is_some, unwrap_or, Some, None, Option, ◌==◌, nat_le, nat_lt, slice_index_or}
 use Rattle.network.specs.Costs.{Kind}
 use Rattle.queue.specs.Waits.{better}
-use Rattle.labelling.specs.declared.kinds.Label.{Label}
 use Rattle.labelling.specs.declared.kinds.Way.{Way}
 use Rattle.labelling.specs.declared.kinds.Back.TheVariants.{Start}
 use Rattle.labelling.specs.declared.kinds.Size.{Size}
@@ -29,10 +28,10 @@ sum_of r a b = cond (r.fits (r.kind.bulk a + r.kind.bulk b)) (Some (r.kind.plus 
 
 -- at each code a label and its way back
 pub record Tables (K : Type 0) : Type 0 where
-  pub labels : List (Label K)
+  pub labels : List (Option K)
   pub ways : List Way
 
-abbrev pub tables : {K : Type 0} → List (Label K) → List Way → Tables K
+abbrev pub tables : {K : Type 0} → List (Option K) → List Way → Tables K
 tables ls ws = record { labels = ls; ways = ws }
 
 -- how many codes there are
@@ -43,12 +42,17 @@ codes s = s.junctions * s.sets
 abbrev pub code_of : Size → ℕ → ℕ → ℕ
 code_of s v i = v * s.sets + i
 
--- an unreached label
-abbrev pub no_label : {K : Type 0} → Rule K → Label K
-no_label r = record { reached = false; cost = r.kind.zero }
+-- the label at a code: what it costs, or none where it is not reached
+abbrev pub label_at : {K : Type 0} → Tables K → ℕ → Option K
+label_at t c = slice_index_or t.labels c None
 
-abbrev pub label_at : {K : Type 0} → Rule K → Tables K → ℕ → Label K
-label_at r t c = slice_index_or t.labels c (no_label r)
+-- whether it is reached
+abbrev pub reached_at : {K : Type 0} → Tables K → ℕ → Bool
+reached_at t c = is_some (label_at t c)
+
+-- what it costs; zero where it is not reached
+abbrev pub label_cost : {K : Type 0} → Rule K → Tables K → ℕ → K
+label_cost r t c = unwrap_or (label_at t c) r.kind.zero
 
 -- no way back, and not settled
 abbrev pub no_way : Way
@@ -60,12 +64,12 @@ turn_at t c = (get_or t.ways c no_way).turn
 
 -- a label waits where it is reached and not settled
 abbrev pub waits_at : {K : Type 0} → Rule K → Tables K → ℕ → Bool
-waits_at r t c = cond (nat_lt c (codes r.size)) (cond (turn_at t c == 0) (label_at r t c).reached false) false
+waits_at r t c = cond (nat_lt c (codes r.size)) (cond (turn_at t c == 0) (reached_at t c) false) false
 
 -- the key under which it waits: its cost and the bound on what is left to pay
 abbrev pub key_at : {K : Type 0} → Rule K → Tables K → ℕ → Option K
 key_at r t c =
-    cond (waits_at r t c) (sum_of r (label_at r t c).cost (r.bound (c / r.size.sets) (c % r.size.sets))) None
+    cond (waits_at r t c) (sum_of r (label_cost r t c) (r.bound (c / r.size.sets) (c % r.size.sets))) None
 
 -- the better of the best so far and what waits at a later code
 abbrev pub with_key : {K : Type 0} → (K → K → Bool) → Option (K × ℕ) → Option K → ℕ → Option (K × ℕ)

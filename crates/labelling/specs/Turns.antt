@@ -2,13 +2,13 @@
 use Rattle.std.specs.Prelude.{ℕ, ◌/◌, ◌%◌, Bool, cond, List, Some, None, Option, ◌==◌, slice_index_or, slice_set}
 use Rattle.labelling.specs.declared.kinds.Place.{Place}
 use Rattle.network.specs.declared.run.Run.{Run}
-use Rattle.labelling.specs.Tables.{Rule, Tables, tables, label_at, no_way, least_waiting}
+use Rattle.labelling.specs.Tables.{Rule, Tables, tables, label_cost, no_way, least_waiting}
 use Rattle.labelling.specs.Runs.{runs_offered}
 use Rattle.labelling.specs.Forks.{forks_offered}
 
 -- the label at a code, as a place to go on from
 abbrev pub place_at : {K : Type 0} → Rule K → Tables K → ℕ → Place K
-place_at r t c = record { v = c / r.size.sets; set = c % r.size.sets; cost = (label_at r t c).cost }
+place_at r t c = record { v = c / r.size.sets; set = c % r.size.sets; cost = label_cost r t c }
 
 -- settled in the turn n
 abbrev pub settled : {K : Type 0} → Tables K → ℕ → ℕ → Tables K

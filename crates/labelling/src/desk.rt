@@ -1,6 +1,6 @@
 // A desk: what a search is lent, and the small steps on it.
-ghost use Rattle.std.specs.Prelude.{◌≡◌, ◌<◌, length};
-ghost use Rattle.labelling.specs.Tables.{rule, label_at};
+ghost use Rattle.std.specs.Prelude.{◌≡◌, ◌<◌, length, unwrap_or};
+ghost use Rattle.labelling.specs.Tables.{label_at};
 ghost use Rattle.labelling.specs.Offers.{written};
 ghost use Rattle.labelling.specs.Turns.{settled};
 ghost use Rattle.labelling.specs.Desks.{tables_on, with_tables};
@@ -21,12 +21,12 @@ pub struct Desk<'m, Q: Queue, E> {
 }
 
 impl<'m, Q: Queue, E: Estimator<Cost = Q::Cost>> Desk<'m, Q, E> {
-    // The label at a code.
-    pub(crate) fn label_of(&self, code: usize) -> Label<Q::Cost>
+    // What the label at a code costs; zero where it is not reached.
+    pub(crate) fn cost_of(&self, code: usize) -> Q::Cost
         requires { code < length self.now.labels.now }
-        ensures { (e : _) (s : _) → result ≡ label_at (rule Q.Cost.Cost.kind e s) (tables_on self.now) code }
+        ensures { result ≡ unwrap_or (label_at (tables_on self.now) code) Q.Cost.Cost.kind.zero }
     {
-        self.labels[code]
+        self.labels[code].unwrap_or(Q::Cost::zero())
     }
 
     // The label at a code is reached at the cost, with its way back.
@@ -34,10 +34,7 @@ impl<'m, Q: Queue, E: Estimator<Cost = Q::Cost>> Desk<'m, Q, E> {
         requires { (code < length self.old.labels.now) × (code < length self.old.ways.now) }
         ensures { self.new ≡ with_tables self.old (written (tables_on self.old) code cost back) }
     {
-        self.labels[code] = Label {
-            reached: true,
-            cost,
-        };
+        self.labels[code] = Some(cost);
         self.ways[code] = Way { turn: 0, back };
     }
 

@@ -42,8 +42,8 @@ impl<'m, Q: Queue, E: Estimator<Cost = Q::Cost>> Desk<'m, Q, E> {
         if self.ways[code].turn == 0 {
             return;
         }
-        let other = self.label_of(code);
-        if let Some(cost) = from.cost.sum(other.cost) {
+        let other = self.cost_of(code);
+        if let Some(cost) = from.cost.sum(other) {
             let to = Place {
                 v: from.v,
                 set: from.set | set,

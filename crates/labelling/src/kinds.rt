@@ -1,12 +1,8 @@
 // What a labelling writes.
 use network::{Junction, RunNumber};
 
-// What it costs to join a junction with a set of outlets, as far as is known.
-#[derive(Clone, Copy)]
-pub struct Label<K> {
-    pub reached: bool,
-    pub cost: K,
-}
+// What it costs to join a junction with a set of outlets, as far as is known; none where it is not reached.
+pub type Label<K> = Option<K>;
 
 // Where a label came from: an outlet alone, another junction over a run, or two labels of the same
 // junction, one of which has the noted set.
@@ -17,7 +13,8 @@ pub enum Back {
     Fork(u16),
 }
 
-// A label's way back, and the turn in which it was settled; 0 where it is not.
+// A label's way back, and the turn in which it was settled; 0 where it is not. An option of a turn would take four
+// more of the forty bytes that the C interface asks for each place.
 #[derive(Clone, Copy)]
 pub struct Way {
     pub turn: u32,

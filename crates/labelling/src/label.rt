@@ -1,5 +1,5 @@
 // The labelling of a view, from nothing.
-ghost use Rattle.std.specs.Prelude.{◌≡◌, ◌-◌, ◌^◌, ◌<◌, ◌≤◌, false, length, MatchResult};
+ghost use Rattle.std.specs.Prelude.{◌≡◌, ◌-◌, ◌^◌, ◌<◌, ◌≤◌, length, None, MatchResult};
 ghost use Rattle.district.specs.Model.{layout_of};
 ghost use Rattle.labelling.specs.Tables.{rule, codes, code_of, no_way};
 ghost use Rattle.labelling.specs.Labelling.{labelled};
@@ -26,26 +26,19 @@ fn bit(i: usize) -> u16
 
 fn wipe_labels<K: Cost>(labels: &mut [Label<K>], count: usize)
     requires { count ≤ length labels.old }
-    ensures { labels.new ≡ wiped count (record { reached = false; cost = K.Cost.kind.zero }) labels.old }
+    ensures { labels.new ≡ wiped count None labels.old }
 {
-    for code in 0..count {
-        labels[code] = Label {
-            reached: false,
-            cost: K::zero(),
-        };
-    }
+    labels[..count].fill(None);
 }
 
 fn wipe_ways(ways: &mut [Way], count: usize)
     requires { count ≤ length ways.old }
     ensures { ways.new ≡ wiped count no_way ways.old }
 {
-    for code in 0..count {
-        ways[code] = Way {
-            turn: 0,
-            back: Back::Start,
-        };
-    }
+    ways[..count].fill(Way {
+        turn: 0,
+        back: Back::Start,
+    });
 }
 
 impl<'m, Q: Queue, E: Estimator<Cost = Q::Cost>> Desk<'m, Q, E> {

@@ -15,11 +15,7 @@ impl<'m, Q: Queue, E: Estimator<Cost = Q::Cost>> Desk<'m, Q, E> {
         requires { (code < length self.now.labels.now) × (code < length self.now.ways.now) }
         ensures { (e : _) (s : _) → result ≡ improves (rule Q.Cost.Cost.kind e s) (tables_on self.now) code cost }
     {
-        if self.ways[code].turn != 0 {
-            return false;
-        }
-        let label = self.labels[code];
-        !label.reached || cost.is_below(label.cost)
+        self.ways[code].turn == 0 && self.labels[code].is_none_or(|least| cost.is_below(least))
     }
 
     pub(crate) fn offer(&mut self, size: Size, to: Place<Q::Cost>, back: Back)

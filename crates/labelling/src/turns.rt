@@ -19,12 +19,11 @@ impl<'m, Q: Queue, E: Estimator<Cost = Q::Cost>> Desk<'m, Q, E> {
         requires { (code < codes size) × (code < length self.now.labels.now) }
         ensures { (e : _) → result ≡ place_at (rule Q.Cost.Cost.kind e size) (tables_on self.now) code }
     {
-        let label = self.labels[code];
         let sets = size.sets as usize;
         Place {
             v: (code / sets) as Junction,
             set: (code % sets) as u16,
-            cost: label.cost,
+            cost: self.cost_of(code),
         }
     }
 

@@ -10,7 +10,7 @@ use Rattle.theory.specs.Search.{Searched, Starts, Alone}
 use Rattle.theory.proofs.Front.{begins}
 use Rattle.labelling.specs.declared.kinds.Back.{Back}
 use Rattle.labelling.specs.declared.kinds.Back.TheVariants.{Start}
-use Rattle.labelling.specs.Tables.{Rule, sum_of, Tables, codes, code_of, label_at, turn_at, no_label, no_way}
+use Rattle.labelling.specs.Tables.{Rule, sum_of, Tables, codes, code_of, label_cost, turn_at, no_way}
 use Rattle.labelling.specs.Offers.{offered}
 use Rattle.labelling.specs.Runs.{Ends}
 use Rattle.labelling.specs.Starts.{size_of, goal_of, blank, started, labelling_by, Within}
@@ -31,7 +31,7 @@ use Rattle.optimal.proofs.Searching.{outside, cheap, searched_turn}
 -- what is settled at the end costs no more than any derivation, and unless the goal was settled every candidate was tried
 pub record Right {K : Type 0} (r : Rule K) (l : Layout K) (x : Labelled K) : Type 0 where
   pub cheap : (w J : ℕ) → w < r.size.junctions → J < r.size.sets → (turn_at x.left (code_of r.size w J) ≡ 0 → ⊥)
-      → (d : K) → Deriv r.kind l w J d → AtMost r.kind (label_at r x.left (code_of r.size w J)).cost d
+      → (d : K) → Deriv r.kind l w J d → AtMost r.kind (label_cost r x.left (code_of r.size w J)) d
   pub searched : (x.ending.outcome ≡ Finished → ⊥) → Searched r.kind l (table_of r x.left)
 
 right_from : {K : Type 0} (r : Rule K) (l : Layout K) (o : Outcome K) (n : ℕ) (s : Tables K) → Searched r.kind l (table_of r s) → Right r l (ended o n s)
@@ -49,7 +49,7 @@ module _ {K : Type 0} (r : Rule K) (laws : Laws r.kind) (sums : (a b : K) → su
   first : Offered 0 (blank r t)
   first = record {
     long = record {
-      labels = let e = length_wiped (no_label r) (codes r.size) t.labels in-labels in omega arith;
+      labels = let e = length_wiped None (codes r.size) t.labels in-labels in omega arith;
       ways = let e = length_wiped no_way (codes r.size) t.ways in_ways in omega arith;
     };
     fresh = blank_turn r t;
@@ -112,7 +112,7 @@ module _ {K : Type 0} (r : Rule K) (laws : Laws r.kind) (sums : (a b : K) → su
   }
     where
       beyond : (v I : ℕ) → r.size.junctions ≤ v → (table_of r begun).settled v I ≡ None
-      beyond v I ge = ap (λ x. settled_by x (ltb I r.size.sets) (turn_at begun (code_of r.size v I)) (label_at r begun (code_of r.size v I)).cost) (le-ltb v r.size.junctions ge)
+      beyond v I ge = ap (λ x. settled_by x (ltb I r.size.sets) (turn_at begun (code_of r.size v I)) (label_cost r begun (code_of r.size v I))) (le-ltb v r.size.junctions ge)
 
   pub searched_start : Searched r.kind l (table_of r begun)
   searched_start = (begins laws starts).0

@@ -5,7 +5,7 @@ use Rattle.network.specs.Costs.{AtMost}
 use Rattle.queue.proofs.Scan.{none≢some}
 use Rattle.theory.specs.Search.{Table, Settled, Waiting, Known}
 use Rattle.theory.proofs.Paths.{same_some, no_some}
-use Rattle.labelling.specs.Tables.{Rule, Tables, code_of, label_at, turn_at}
+use Rattle.labelling.specs.Tables.{Rule, Tables, code_of, label_cost, reached_at, turn_at}
 
 abbrev pub settled_by : {K : Type 0} → Bool → Bool → ℕ → K → Option K
 settled_by x y n c = cond x (cond y (cond (eqb n 0) None (Some c)) None) None
@@ -16,8 +16,8 @@ reached_by x y z c = cond x (cond y (cond z (Some c) None) None) None
 -- within the codes: settled where it has a turn, and reached where it is reached
 abbrev pub table_of : {K : Type 0} → Rule K → Tables K → Table K
 table_of r t = record {
-  settled = λ v I. settled_by (ltb v r.size.junctions) (ltb I r.size.sets) (turn_at t (code_of r.size v I)) (label_at r t (code_of r.size v I)).cost;
-  reached = λ v I. reached_by (ltb v r.size.junctions) (ltb I r.size.sets) (label_at r t (code_of r.size v I)).reached (label_at r t (code_of r.size v I)).cost;
+  settled = λ v I. settled_by (ltb v r.size.junctions) (ltb I r.size.sets) (turn_at t (code_of r.size v I)) (label_cost r t (code_of r.size v I));
+  reached = λ v I. reached_by (ltb v r.size.junctions) (ltb I r.size.sets) (reached_at t (code_of r.size v I)) (label_cost r t (code_of r.size v I));
 }
 
 settled_parts : {K : Type 0} (x y : Bool) (n : ℕ) (m c : K) → settled_by x y n m ≡ Some c → (x ≡ true) × (y ≡ true) × (n ≡ 0 → ⊥) × (m ≡ c)
@@ -44,54 +44,54 @@ module _ {K : Type 0} (r : Rule K) (t : Tables K) (v I : ℕ) where
   abbrev c : ℕ
   c = code_of r.size v I
 
-  pub settled_in : (k : K) → Settled (table_of r t) v I k → (v < r.size.junctions) × (I < r.size.sets) × (turn_at t c ≡ 0 → ⊥) × ((label_at r t c).cost ≡ k)
+  pub settled_in : (k : K) → Settled (table_of r t) v I k → (v < r.size.junctions) × (I < r.size.sets) × (turn_at t c ≡ 0 → ⊥) × ((label_cost r t c) ≡ k)
   settled_in k h =
-      let q = settled_parts (ltb v r.size.junctions) (ltb I r.size.sets) (turn_at t c) (label_at r t c).cost k h in
+      let q = settled_parts (ltb v r.size.junctions) (ltb I r.size.sets) (turn_at t c) (label_cost r t c) k h in
       (ltb-true v r.size.junctions q.0, ltb-true I r.size.sets q.1, q.2, q.3)
 
-  pub reached_in : (k : K) → (table_of r t).reached v I ≡ Some k → (v < r.size.junctions) × (I < r.size.sets) × ((label_at r t c).reached ≡ true) × ((label_at r t c).cost ≡ k)
+  pub reached_in : (k : K) → (table_of r t).reached v I ≡ Some k → (v < r.size.junctions) × (I < r.size.sets) × ((reached_at t c) ≡ true) × ((label_cost r t c) ≡ k)
   reached_in k h =
-      let q = reached_parts (ltb v r.size.junctions) (ltb I r.size.sets) (label_at r t c).reached (label_at r t c).cost k h in
+      let q = reached_parts (ltb v r.size.junctions) (ltb I r.size.sets) (reached_at t c) (label_cost r t c) k h in
       (ltb-true v r.size.junctions q.0, ltb-true I r.size.sets q.1, q.2, q.3)
 
   pub unsettled : turn_at t c ≡ 0 → (table_of r t).settled v I ≡ None
   unsettled z =
-      ap (λ n. settled_by (ltb v r.size.junctions) (ltb I r.size.sets) n (label_at r t c).cost) z
-      ∙ none_by (ltb v r.size.junctions) (ltb I r.size.sets) (label_at r t c).cost
+      ap (λ n. settled_by (ltb v r.size.junctions) (ltb I r.size.sets) n (label_cost r t c)) z
+      ∙ none_by (ltb v r.size.junctions) (ltb I r.size.sets) (label_cost r t c)
 
   module _ (vn : v < r.size.junctions) (In : I < r.size.sets) where
-    pub settled_out : (turn_at t c ≡ 0 → ⊥) → Settled (table_of r t) v I (label_at r t c).cost
+    pub settled_out : (turn_at t c ≡ 0 → ⊥) → Settled (table_of r t) v I (label_cost r t c)
     settled_out s =
-        ap (λ x. settled_by x (ltb I r.size.sets) (turn_at t c) (label_at r t c).cost) (lt-ltb v r.size.junctions vn)
-        ∙ ap (λ x. settled_by true x (turn_at t c) (label_at r t c).cost) (lt-ltb I r.size.sets In)
-        ∙ ap (λ x. cond x None (Some (label_at r t c).cost)) (ne_eqb (turn_at t c) 0 s)
+        ap (λ x. settled_by x (ltb I r.size.sets) (turn_at t c) (label_cost r t c)) (lt-ltb v r.size.junctions vn)
+        ∙ ap (λ x. settled_by true x (turn_at t c) (label_cost r t c)) (lt-ltb I r.size.sets In)
+        ∙ ap (λ x. cond x None (Some (label_cost r t c))) (ne_eqb (turn_at t c) 0 s)
 
-    pub reached_out : (label_at r t c).reached ≡ true → (table_of r t).reached v I ≡ Some (label_at r t c).cost
+    pub reached_out : (reached_at t c) ≡ true → (table_of r t).reached v I ≡ Some (label_cost r t c)
     reached_out h =
-        ap (λ x. reached_by x (ltb I r.size.sets) (label_at r t c).reached (label_at r t c).cost) (lt-ltb v r.size.junctions vn)
-        ∙ ap (λ x. reached_by true x (label_at r t c).reached (label_at r t c).cost) (lt-ltb I r.size.sets In)
-        ∙ ap (λ x. cond x (Some (label_at r t c).cost) None) h
+        ap (λ x. reached_by x (ltb I r.size.sets) (reached_at t c) (label_cost r t c)) (lt-ltb v r.size.junctions vn)
+        ∙ ap (λ x. reached_by true x (reached_at t c) (label_cost r t c)) (lt-ltb I r.size.sets In)
+        ∙ ap (λ x. cond x (Some (label_cost r t c)) None) h
 
     -- reached at no more than m
-    pub known_at : (m : K) → (label_at r t c).reached ≡ true → AtMost r.kind (label_at r t c).cost m → Known r.kind (table_of r t) v I m
+    pub known_at : (m : K) → reached_at t c ≡ true → AtMost r.kind (label_cost r t c) m → Known r.kind (table_of r t) v I m
     known_at m h le =
         ⊎_elim
-        (λ z. record { cost = (label_at r t c).cost; has = inr (unsettled z, reached_out h); within = le })
-        (λ s. record { cost = (label_at r t c).cost; has = inl (settled_out s); within = le })
+        (λ z. record { cost = (label_cost r t c); has = inr (unsettled z, reached_out h); within = le })
+        (λ s. record { cost = (label_cost r t c); has = inl (settled_out s); within = le })
         (cases_eq (turn_at t c) 0)
 
-  pub waiting_in : (k : K) → Waiting (table_of r t) v I k → (v < r.size.junctions) × (I < r.size.sets) × (turn_at t c ≡ 0) × ((label_at r t c).reached ≡ true) × ((label_at r t c).cost ≡ k)
+  pub waiting_in : (k : K) → Waiting (table_of r t) v I k → (v < r.size.junctions) × (I < r.size.sets) × (turn_at t c ≡ 0) × ((reached_at t c) ≡ true) × ((label_cost r t c) ≡ k)
   waiting_in k w =
       let q = reached_in k w.1 in
       (q.0, q.1, ⊎_elim (λ z. z) (λ s. absurd (no_some _ _ w.0 (settled_out q.0 q.1 s))) (cases_eq (turn_at t c) 0), q.2, q.3)
 
 -- the same turn, and the same cost where it is settled
 pub settled_same : {K : Type 0} (r : Rule K) (t t' : Tables K) (v I : ℕ) → turn_at t' (code_of r.size v I) ≡ turn_at t (code_of r.size v I)
-    → ((turn_at t (code_of r.size v I) ≡ 0 → ⊥) → (label_at r t' (code_of r.size v I)).cost ≡ (label_at r t (code_of r.size v I)).cost)
+    → ((turn_at t (code_of r.size v I) ≡ 0 → ⊥) → (label_cost r t' (code_of r.size v I)) ≡ (label_cost r t (code_of r.size v I)))
     → (table_of r t').settled v I ≡ (table_of r t).settled v I
 settled_same r t t' v I p q =
     ⊎_elim
     (λ z. unsettled r t' v I (p ∙ z) ∙ sym (unsettled r t v I z))
-    (λ s. ap (λ n. settled_by (ltb v r.size.junctions) (ltb I r.size.sets) n (label_at r t' (code_of r.size v I)).cost) p
+    (λ s. ap (λ n. settled_by (ltb v r.size.junctions) (ltb I r.size.sets) n (label_cost r t' (code_of r.size v I))) p
     ∙ ap (λ m. settled_by (ltb v r.size.junctions) (ltb I r.size.sets) (turn_at t (code_of r.size v I)) m) (q s))
     (cases_eq (turn_at t (code_of r.size v I)) 0)

@@ -4,7 +4,7 @@ use Rattle.std.proofs.lemmas.Nat.{div-add-mod'}
 use Rattle.std.proofs.lemmas.Bool.{cases_eq, cases_lt, cond_both, ne_eqb}
 use Rattle.network.specs.Layouts.{Layout}
 use Rattle.labelling.specs.declared.kinds.Outcome.TheVariants.{Stopped}
-use Rattle.labelling.specs.Tables.{Rule, Tables, codes, code_of, label_at, turn_at}
+use Rattle.labelling.specs.Tables.{Rule, Tables, codes, code_of, reached_at, turn_at}
 use Rattle.labelling.specs.Runs.{Ends}
 use Rattle.labelling.specs.Turns.{settled, turned}
 use Rattle.labelling.specs.Starts.{size_of, goal_of, started, blank, labelling_by, Within}
@@ -175,7 +175,7 @@ module _ {K : Type 0} (r : Rule K) (l : Layout K) (is : r.size ≡ size_of l) (e
         omega arith
       where
         -- the empty set is never reached
-        empty : Ended r l limit t (labelling_by r l limit t) → (c : ℕ) → c < length (labelling_by r l limit t).left.ways → c < codes r.size → (label_at r (labelling_by r l limit t).left c).reached ≡ true
+        empty : Ended r l limit t (labelling_by r l limit t) → (c : ℕ) → c < length (labelling_by r l limit t).left.ways → c < codes r.size → (reached_at (labelling_by r l limit t).left c) ≡ true
             → (v : ℕ) → v < r.size.junctions → turn_at (settled (labelling_by r l limit t).left c 1) (v * r.size.sets) ≡ 0
         empty end c in_row within reached v vn =
             let left = (labelling_by r l limit t).left in
@@ -183,7 +183,7 @@ module _ {K : Type 0} (r : Rule K) (l : Layout K) (is : r.size ≡ size_of l) (e
             let S = r.size.sets in
             let zero-code : code_of r.size v 0 ≡ v * S = omega arith in
             ⊎_elim
-            (λ e. absurd (end.traced.some v 0 vn pos (ap (λ d. (label_at r left d).reached) (zero-code ∙ e) ∙ reached) refl))
+            (λ e. absurd (end.traced.some v 0 vn pos (ap (λ d. reached_at left d) (zero-code ∙ e) ∙ reached) refl))
             (λ ne. settled_other left c 1 (v * S) ne ∙
             ⊎_elim (λ z. z) (λ s. absurd (end.traced.some v 0 vn pos (end.traced.reached v 0 vn pos (λ z. s (ap (turn_at left) (sym zero-code) ∙ z))) refl)) (cases_eq (turn_at left (v * S)) 0))
             (cases_eq (v * S) c)

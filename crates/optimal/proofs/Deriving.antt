@@ -12,7 +12,7 @@ use Rattle.theory.specs.Derivations.{Deriv, outlet, step, fork, uses}
 use Rattle.theory.proofs.Paths.{same_some}
 use Rattle.labelling.specs.declared.kinds.Back.{Back}
 use Rattle.labelling.specs.declared.kinds.Back.TheVariants.{Start, Run as ByRun, Fork}
-use Rattle.labelling.specs.Tables.{Rule, sum_of, Tables, code_of, label_at, turn_at}
+use Rattle.labelling.specs.Tables.{Rule, sum_of, Tables, code_of, label_cost, reached_at, turn_at}
 use Rattle.labelling.specs.Tracing.{Trace, from_outlet, from_run, from_fork, Traced}
 use Rattle.labelling.proofs.Writing.{back_at}
 use Rattle.optimal.specs.Drawing.{far_end, by, drawn, Shows}
@@ -90,7 +90,7 @@ module _ {K : Type 0} (r : Rule K) (laws : Laws r.kind) (l : Layout K) (n : ℕ)
 
   -- what is found of the labels settled in earlier turns
   abbrev Before : ℕ → Type 0
-  Before m = (w J : ℕ) → w < r.size.junctions → J < r.size.sets → (turn_at t (code_of r.size w J) ≡ 0 → ⊥) → turn_at t (code_of r.size w J) ≤ m → Found w J w J (label_at r t (code_of r.size w J)).cost
+  Before m = (w J : ℕ) → w < r.size.junctions → J < r.size.sets → (turn_at t (code_of r.size w J) ≡ 0 → ⊥) → turn_at t (code_of r.size w J) ≤ m → Found w J w J (label_cost r t (code_of r.size w J))
 
   module _ (m : ℕ) (before : Before m) (v I : ℕ) (vn : v < r.size.junctions) (In : I < r.size.sets) (settled : turn_at t (code_of r.size v I) ≡ 0 → ⊥) (soon : turn_at t (code_of r.size v I) ≤ suc m) where
     -- a step back takes one unit of the fuel
@@ -122,7 +122,7 @@ module _ {K : Type 0} (r : Rule K) (laws : Laws r.kind) (l : Layout K) (n : ℕ)
         let y = before v I' vn (omega arith) e.settled (omega arith) in
         let rest : I - J ≡ I' = omega arith in
         subst (λ z. Found v I v I z) (laws.comm _ _ ∙ sum_is _ _ c s)
-        (subst (λ z. Found v I v z (r.kind.plus (label_at r t (code_of r.size v J)).cost (label_at r t (code_of r.size v I')).cost)) (or_comm J I' ∙ whole) (
+        (subst (λ z. Found v I v z (r.kind.plus (label_cost r t (code_of r.size v J)) (label_cost r t (code_of r.size v I')))) (or_comm J I' ∙ whole) (
           fork (and_comm J I' ∙ apart) x.0 y.0,
           one_back (Fork J) (uses x.0 ++ uses y.0) is (λ f row le.
               ap (λ z. drawn r.size l.runs t.ways f v z (drawn r.size l.runs t.ways f v J row)) rest
@@ -134,13 +134,13 @@ module _ {K : Type 0} (r : Rule K) (laws : Laws r.kind) (l : Layout K) (n : ℕ)
   pub found : (m : ℕ) → Before m
   found zero v I vn In settled soon = absurd (settled (omega arith))
   found (suc m) v I vn In settled soon =
-      by_trace m (found m) v I vn In settled soon (label_at r t (code_of r.size v I)).cost (back_at t (code_of r.size v I)) refl (traced.trace v I vn In (traced.reached v I vn In settled))
+      by_trace m (found m) v I vn In settled soon (label_cost r t (code_of r.size v I)) (back_at t (code_of r.size v I)) refl (traced.trace v I vn In (traced.reached v I vn In settled))
 
   -- each settled label has its derivation
-  pub settled_found : (v I : ℕ) → v < r.size.junctions → I < r.size.sets → (turn_at t (code_of r.size v I) ≡ 0 → ⊥) → Found v I v I (label_at r t (code_of r.size v I)).cost
+  pub settled_found : (v I : ℕ) → v < r.size.junctions → I < r.size.sets → (turn_at t (code_of r.size v I) ≡ 0 → ⊥) → Found v I v I (label_cost r t (code_of r.size v I))
   settled_found v I vn In settled = found (turn_at t (code_of r.size v I)) v I vn In settled (omega arith)
 
-  pub settled_deriv : (v I : ℕ) → v < r.size.junctions → I < r.size.sets → (turn_at t (code_of r.size v I) ≡ 0 → ⊥) → Deriv r.kind l v I (label_at r t (code_of r.size v I)).cost
+  pub settled_deriv : (v I : ℕ) → v < r.size.junctions → I < r.size.sets → (turn_at t (code_of r.size v I) ≡ 0 → ⊥) → Deriv r.kind l v I (label_cost r t (code_of r.size v I))
   settled_deriv v I vn In settled = (settled_found v I vn In settled).0
 
   trace_deriv : (v I : ℕ) → v < r.size.junctions → I < r.size.sets → (c : K) (b : Back) → Trace r l t v I c b → Deriv r.kind l v I c
@@ -150,9 +150,9 @@ module _ {K : Type 0} (r : Rule K) (laws : Laws r.kind) (l : Layout K) (n : ℕ)
   trace_deriv v I vn In c b (from_fork {J = J} I' a a' apart whole e e' s) =
       let total = or_disjoint I' J apart in
       subst (λ z. Deriv r.kind l v I z) (sum_is _ _ c s)
-      (subst (λ z. Deriv r.kind l v z (r.kind.plus (label_at r t (code_of r.size v I')).cost (label_at r t (code_of r.size v J)).cost)) whole
+      (subst (λ z. Deriv r.kind l v z (r.kind.plus (label_cost r t (code_of r.size v I')) (label_cost r t (code_of r.size v J)))) whole
       (fork apart (settled_deriv v I' vn (omega arith) e.settled) (settled_deriv v J vn (omega arith) e'.settled)))
 
   -- and so has each that is reached
-  pub reached_deriv : (v I : ℕ) → v < r.size.junctions → I < r.size.sets → (label_at r t (code_of r.size v I)).reached ≡ true → Deriv r.kind l v I (label_at r t (code_of r.size v I)).cost
+  pub reached_deriv : (v I : ℕ) → v < r.size.junctions → I < r.size.sets → reached_at t (code_of r.size v I) ≡ true → Deriv r.kind l v I (label_cost r t (code_of r.size v I))
   reached_deriv v I vn In h = trace_deriv v I vn In _ _ (traced.trace v I vn In h)

@@ -12,7 +12,7 @@ use Rattle.theory.proofs.Optimal.{cheapest_least, floor, hopeless}
 use Rattle.theory.proofs.DreyfusWagner.{is_dreyfus_wagner}
 use Rattle.labelling.specs.declared.kinds.Size.{Size}
 use Rattle.labelling.specs.declared.kinds.Outcome.TheVariants.{Finished, NoneWaits, Stopped}
-use Rattle.labelling.specs.Tables.{Rule, sum_of, Tables, code_of, label_at, turn_at}
+use Rattle.labelling.specs.Tables.{Rule, sum_of, Tables, code_of, label_cost, turn_at}
 use Rattle.labelling.specs.Starts.{size_of, goal_of, Within}
 use Rattle.labelling.specs.Labelling.{Labelled}
 use Rattle.labelling.proofs.Offering.{code_within}
@@ -58,11 +58,11 @@ module _ {K : Type 0} (r : Rule K) (laws : Laws r.kind) (sums : (a b : K) → su
   abbrev left : Tables K
   left = x.left
 
-  pub cheapest : (v I : ℕ) → v < r.size.junctions → I < r.size.sets → (turn_at left (code_of r.size v I) ≡ 0 → ⊥) → Cheapest r.kind l v I (label_at r left (code_of r.size v I)).cost
+  pub cheapest : (v I : ℕ) → v < r.size.junctions → I < r.size.sets → (turn_at left (code_of r.size v I) ≡ 0 → ⊥) → Cheapest r.kind l v I (label_cost r left (code_of r.size v I))
   cheapest v I vn In was = record { derived = settled_deriv r laws l x.ending.turns left end.traced v I vn In was; least = right.cheap v I vn In was }
 
   pub least_cost : (v I : ℕ) → v < r.size.junctions → I < r.size.sets → (turn_at left (code_of r.size v I) ≡ 0 → ⊥)
-      → DreyfusWagner r.kind l v I (label_at r left (code_of r.size v I)).cost × LeastCost r.kind l v I (label_at r left (code_of r.size v I)).cost
+      → DreyfusWagner r.kind l v I (label_cost r left (code_of r.size v I)) × LeastCost r.kind l v I (label_cost r left (code_of r.size v I))
   least_cost v I vn In was = let h = cheapest v I vn In was in (is_dreyfus_wagner laws l v I _ h, cheapest_least laws h)
 
   -- ---- the goal
@@ -76,7 +76,7 @@ module _ {K : Type 0} (r : Rule K) (laws : Laws r.kind) (sums : (a b : K) → su
   at_goal = ap (λ s. code_of s (root l) (all_others l)) (sym is)
 
   abbrev c : K
-  c = (label_at r left (code_of r.size (root l) (all_others l))).cost
+  c = (label_cost r left (code_of r.size (root l) (all_others l)))
 
   module _ (done : x.ending.outcome ≡ Finished) where
     how : (turn_at left (goal_of l) ≡ x.ending.turns) × (0 < x.ending.turns)

@@ -1,5 +1,5 @@
 -- No sum of a labelling is none: with the planner's sums it is what it is with exact sums. Assumes nothing.
-use Rattle.std.proofs.Common.{◌≡◌, ℕ, zero, suc, ◌+◌, ◌/◌, ◌%◌, ◌^◌, ◌<◌, ◌≤◌, Bool, false, cond, eqb, List, [], ◌∷◌, length, get_or, drop, Some, None, Option, sym, refl, ap, ◌∙◌, subst, ⊎_elim, arith}
+use Rattle.std.proofs.Common.{◌≡◌, ℕ, zero, suc, ◌+◌, ◌/◌, ◌%◌, ◌^◌, ◌<◌, ◌≤◌, Bool, false, cond, eqb, List, [], ◌∷◌, length, get_or, drop, Some, None, Option, sym, refl, ap, ◌∙◌, subst, ⊎_elim, arith, unwrap_or}
 use lib.Bits.{bit_and, bit_or}
 use Rattle.std.proofs.lemmas.Nat.{div-add-mod'}
 use Rattle.std.proofs.lemmas.Bool.{cases_Bool, cond-true, cond-false, eqb-false}
@@ -8,11 +8,10 @@ use Rattle.network.specs.Costs.{Kind, Laws}
 use Rattle.network.specs.Layouts.{Layout, Priced}
 use Rattle.network.specs.Bounds.{Lawful}
 use Rattle.theory.specs.Search.{Searched}
-use Rattle.labelling.specs.declared.kinds.Label.{Label}
 use Rattle.labelling.specs.declared.kinds.Back.TheVariants.{Start, Run as ByRun, Fork}
 use Rattle.labelling.specs.declared.kinds.Place.{Place}
 use Rattle.labelling.specs.declared.kinds.Outcome.TheVariants.{Finished, NoneWaits}
-use Rattle.labelling.specs.Tables.{Rule, exactly, sum_of, Tables, codes, code_of, label_at, turn_at, waits_at, key_at, with_key, least_to, least_waiting}
+use Rattle.labelling.specs.Tables.{Rule, exactly, sum_of, Tables, codes, code_of, label_cost, reached_at, turn_at, waits_at, key_at, with_key, least_to, least_waiting}
 use Rattle.labelling.specs.Runs.{other_end, led, along_to, along, runs_offered, Ends}
 use Rattle.labelling.specs.Forks.{joined, fork, forks_to, forks_offered}
 use Rattle.labelling.specs.Turns.{place_at, settled, turned_at, turned}
@@ -83,15 +82,15 @@ module _ {K : Type 0} (kind : Kind K) (laws : Laws kind) (bound : ℕ → ℕ �
     key_same c =
         ⊎_elim
         (λ w.
-        let m = (label_at e s c).cost in
+        let m = (label_cost e s c) in
         let v = c / e.size.sets in
         let I = c % e.size.sets in
         let q = key_waits e s c (kind.plus m (bound v I)) (cond-true (waits_at e s c) _ _ w) in
         let vn = junction_within e.size c q.within in
         let In = set_within e.size c q.within in
         let at : code_of e.size v I ≡ c = div-add-mod' c e.size.sets in
-        let light = reached_light kind laws bound l few priced n s kept.traced (λ w J wn Jn h d x. inv.cheapest w J _ d (settled_out e s w J wn Jn h) x) v I vn In (ap (λ d. (label_at e s d).reached) at ∙ q.reached) in
-        let is = ap (λ d. kind.bulk (label_at e s d).cost) at in
+        let light = reached_light kind laws bound l few priced n s kept.traced (λ w J wn Jn h d x. inv.cheapest w J _ d (settled_out e s w J wn Jn h) x) v I vn In (ap (λ d. reached_at s d) at ∙ q.reached) in
+        let is = ap (λ d. kind.bulk (label_cost e s d)) at in
         let b = law.light v I in
         ap (λ x. cond (waits_at e s c) x None) (sum_fits kind laws bound l few priced m (bound v I) (omega arith)))
         (λ w. cond-false (waits_at r s c) _ _ w ∙ sym (cond-false (waits_at e s c) _ _ w))
@@ -114,12 +113,12 @@ module _ {K : Type 0} (kind : Kind K) (laws : Laws kind) (bound : ℕ → ℕ �
       start = going_start e l ends' (unions e l refl ends inside some) n s kept.traced kept.long p least
 
       -- what is settled in the course of the turn is light
-      light_at : (t : Tables K) → Go t → (w J : ℕ) → w < l.junctions → J < e.size.sets → (turn_at t (code_of e.size w J) ≡ 0 → ⊥) → kind.bulk (label_at e t (code_of e.size w J)).cost ≤ 4096000000
+      light_at : (t : Tables K) → Go t → (w J : ℕ) → w < l.junctions → J < e.size.sets → (turn_at t (code_of e.size w J) ≡ 0 → ⊥) → kind.bulk (label_cost e t (code_of e.size w J)) ≤ 4096000000
       light_at t go w J wn Jn h =
           let c = code_of e.size w J in
           let was : turn_at s1 c ≡ 0 → ⊥ = λ z. h (go.grown.turns c ∙ z) in
           let q = settled_light kind laws bound l few priced (n + 1) s1 start.traced (cheap e laws (λ a b. refl) l ends' (unions e l refl ends inside some) law n s kept.traced kept.long p least inv) w J wn Jn was in
-          subst (λ (y : Label K). kind.bulk y.cost ≤ 4096000000) (sym (go.grown.labels c was)) q
+          subst (λ (y : Option K). kind.bulk (unwrap_or y kind.zero) ≤ 4096000000) (sym (go.grown.labels c was)) q
 
       from_light : (t : Tables K) → Go t → kind.bulk from.cost ≤ 4096000000
       from_light t go =
@@ -143,13 +142,13 @@ module _ {K : Type 0} (kind : Kind K) (laws : Laws kind) (bound : ℕ → ℕ �
       fork_same : (j : ℕ) (t : Tables K) → j < e.size.sets → Go t → fork r from j t ≡ fork e from j t
       fork_same j t jn go = ap (λ y. cond (eqb j 0) t (cond (eqb (bit_and from.set j) 0) y t)) inner
         where
-          inner : cond (eqb (turn_at t (code_of e.size from.v j)) 0) t (joined r t from j (sum_of r from.cost (label_at e t (code_of e.size from.v j)).cost))
-              ≡ cond (eqb (turn_at t (code_of e.size from.v j)) 0) t (joined e t from j (sum_of e from.cost (label_at e t (code_of e.size from.v j)).cost))
+          inner : cond (eqb (turn_at t (code_of e.size from.v j)) 0) t (joined r t from j (sum_of r from.cost (label_cost e t (code_of e.size from.v j))))
+              ≡ cond (eqb (turn_at t (code_of e.size from.v j)) 0) t (joined e t from j (sum_of e from.cost (label_cost e t (code_of e.size from.v j))))
           inner =
               ⊎_elim
               (λ z. cond-true _ _ _ z ∙ sym (cond-true _ _ _ z))
               (λ z.
-              let m = (label_at e t (code_of e.size from.v j)).cost in
+              let m = (label_cost e t (code_of e.size from.v j)) in
               let a = from_light t go in
               let b = light_at t go from.v j (taken_v e l ends' (unions e l refl ends inside some) n s kept.traced kept.long p least) jn (eqb-false _ 0 z) in
               let k = kind.plus from.cost m in

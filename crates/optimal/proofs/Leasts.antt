@@ -5,21 +5,21 @@ use Rattle.network.specs.Costs.{Laws, AtMost}
 use Rattle.queue.proofs.Scan.{none≢some}
 use Rattle.theory.proofs.Order.{le_trans}
 use Rattle.theory.proofs.Paths.{same_some}
-use Rattle.labelling.specs.Tables.{Rule, sum_of, Tables, codes, code_of, label_at, turn_at, key_at, with_key, least_to, least_waiting}
+use Rattle.labelling.specs.Tables.{Rule, sum_of, Tables, codes, code_of, label_cost, reached_at, turn_at, key_at, with_key, least_to, least_waiting}
 use Rattle.labelling.proofs.Offering.{code_within, sum_at_code}
 use Rattle.optimal.proofs.Reaching.{below_le}
 
 module _ {K : Type 0} (r : Rule K) (t : Tables K) where
   -- a label that waits has its key
-  pub key_is : (v I : ℕ) → v < r.size.junctions → I < r.size.sets → turn_at t (code_of r.size v I) ≡ 0 → (label_at r t (code_of r.size v I)).reached ≡ true
-      → key_at r t (code_of r.size v I) ≡ sum_of r (label_at r t (code_of r.size v I)).cost (r.bound v I)
+  pub key_is : (v I : ℕ) → v < r.size.junctions → I < r.size.sets → turn_at t (code_of r.size v I) ≡ 0 → reached_at t (code_of r.size v I) ≡ true
+      → key_at r t (code_of r.size v I) ≡ sum_of r (label_cost r t (code_of r.size v I)) (r.bound v I)
   key_is v I vn In fresh reached =
       let c = code_of r.size v I in
-      let o = sum_of r (label_at r t c).cost (r.bound (c / r.size.sets) (c % r.size.sets)) in
-      ap (λ x. cond (cond x (cond (eqb (turn_at t c) 0) (label_at r t c).reached false) false) o None) (lt-ltb c (codes r.size) (code_within r.size v I vn In))
-      ∙ ap (λ x. cond (cond x (label_at r t c).reached false) o None) (eq-eqb (turn_at t c) 0 fresh)
+      let o = sum_of r (label_cost r t c) (r.bound (c / r.size.sets) (c % r.size.sets)) in
+      ap (λ x. cond (cond x (cond (eqb (turn_at t c) 0) (reached_at t c) false) false) o None) (lt-ltb c (codes r.size) (code_within r.size v I vn In))
+      ∙ ap (λ x. cond (cond x (reached_at t c) false) o None) (eq-eqb (turn_at t c) 0 fresh)
       ∙ ap (λ x. cond x o None) reached
-      ∙ sum_at_code r v I (label_at r t c).cost In
+      ∙ sum_at_code r v I (label_cost r t c) In
 
   module _ (laws : Laws r.kind) where
     -- of the first n codes no key is below the one chosen

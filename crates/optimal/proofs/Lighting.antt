@@ -10,7 +10,7 @@ use Rattle.theory.proofs.Paths.{same_some}
 use Rattle.theory.proofs.Lightness.{cheapest_light}
 use Rattle.labelling.specs.declared.kinds.Back.{Back}
 use Rattle.labelling.specs.declared.kinds.Place.{Place}
-use Rattle.labelling.specs.Tables.{Rule, exactly, sum_of, Tables, code_of, label_at, turn_at}
+use Rattle.labelling.specs.Tables.{Rule, exactly, sum_of, Tables, code_of, label_cost, reached_at, turn_at}
 use Rattle.labelling.specs.Offers.{keyed, offered}
 use Rattle.labelling.specs.Starts.{rule_of}
 use Rattle.labelling.specs.Tracing.{Trace, from_outlet, from_run, from_fork, Traced}
@@ -36,8 +36,8 @@ module _ {K : Type 0} (kind : Kind K) (laws : Laws kind) (bound : ℕ → ℕ �
 
   -- in tables where what is settled is cheapest
   module _ (n : ℕ) (t : Tables K) (traced : Traced e l n t)
-      (cheap : (w J : ℕ) → w < l.junctions → J < e.size.sets → (turn_at t (code_of e.size w J) ≡ 0 → ⊥) → (d : K) → Deriv kind l w J d → AtMost kind (label_at e t (code_of e.size w J)).cost d) where
-    pub settled_light : (w J : ℕ) → w < l.junctions → J < e.size.sets → (turn_at t (code_of e.size w J) ≡ 0 → ⊥) → kind.bulk (label_at e t (code_of e.size w J)).cost ≤ 4096000000
+      (cheap : (w J : ℕ) → w < l.junctions → J < e.size.sets → (turn_at t (code_of e.size w J) ≡ 0 → ⊥) → (d : K) → Deriv kind l w J d → AtMost kind (label_cost e t (code_of e.size w J)) d) where
+    pub settled_light : (w J : ℕ) → w < l.junctions → J < e.size.sets → (turn_at t (code_of e.size w J) ≡ 0 → ⊥) → kind.bulk (label_cost e t (code_of e.size w J)) ≤ 4096000000
     settled_light w J wn Jn h =
         let q = cheapest_light laws l priced w J _ (record { derived = settled_deriv e laws l n t traced w J wn Jn h; least = cheap w J wn Jn h }) in
         omega arith
@@ -48,16 +48,16 @@ module _ {K : Type 0} (kind : Kind K) (laws : Laws kind) (bound : ℕ → ℕ �
         let q = picked_out l.runs l.«open» i link.run link.is_open in
         let run : kind.bulk k ≤ 1000000 = subst (λ x. kind.bulk x ≤ 1000000) link.leads.costs (run_light i link.run q.1 q.2) in
         let old = settled_light w I wn In h.settled in
-        let sum = laws.bulk_plus (label_at e t (code_of e.size w I)).cost k in
+        let sum = laws.bulk_plus (label_cost e t (code_of e.size w I)) k in
         let is = ap kind.bulk (same_some s) in
         omega arith
     trace_light v I vn In c b (from_fork {J = J} I' a a' apart whole h h' s) =
         let total = or_disjoint I' J apart in
         let one = settled_light v I' vn (omega arith) h.settled in
         let two = settled_light v J vn (omega arith) h'.settled in
-        let sum = laws.bulk_plus (label_at e t (code_of e.size v I')).cost (label_at e t (code_of e.size v J)).cost in
+        let sum = laws.bulk_plus (label_cost e t (code_of e.size v I')) (label_cost e t (code_of e.size v J)) in
         let is = ap kind.bulk (same_some s) in
         omega arith
 
-    pub reached_light : (v I : ℕ) → v < l.junctions → I < e.size.sets → (label_at e t (code_of e.size v I)).reached ≡ true → kind.bulk (label_at e t (code_of e.size v I)).cost ≤ 8192000000
+    pub reached_light : (v I : ℕ) → v < l.junctions → I < e.size.sets → reached_at t (code_of e.size v I) ≡ true → kind.bulk (label_cost e t (code_of e.size v I)) ≤ 8192000000
     reached_light v I vn In h = trace_light v I vn In _ _ (traced.trace v I vn In h)

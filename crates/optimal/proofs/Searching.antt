@@ -1,5 +1,5 @@
 -- A turn with exact sums keeps what holds between the turns of a search. Assumes nothing.
-use Rattle.std.proofs.Common.{◌≡◌, ℕ, ◌+◌, ◌/◌, ◌%◌, ◌<◌, ◌≤◌, Bool, true, false, cond, ltb, ◌≢◌, ◌⊎◌, Some, None, Option, sym, refl, ap, ◌∙◌, subst, ⊎_elim}
+use Rattle.std.proofs.Common.{◌≡◌, ℕ, ◌+◌, ◌/◌, ◌%◌, ◌<◌, ◌≤◌, Bool, true, false, cond, ltb, ◌≢◌, ◌⊎◌, Some, None, Option, sym, refl, ap, ◌∙◌, subst, ⊎_elim, unwrap_or}
 use lib.Bits.{bit_and, bit_or}
 use Rattle.std.proofs.lemmas.Bool.{cases_lt, cases_eq, le-ltb}
 use Rattle.network.specs.Costs.{Laws, AtMost}
@@ -9,9 +9,8 @@ use Rattle.theory.specs.Derivations.{Deriv}
 use Rattle.theory.specs.Search.{Settled, Known, Searched, Next, Turn}
 use Rattle.theory.proofs.Paths.{same_some}
 use Rattle.theory.proofs.Front.{settles, turn_keeps}
-use Rattle.labelling.specs.declared.kinds.Label.{Label}
 use Rattle.labelling.specs.declared.kinds.Place.{Place}
-use Rattle.labelling.specs.Tables.{Rule, sum_of, Tables, code_of, label_at, turn_at, least_waiting}
+use Rattle.labelling.specs.Tables.{Rule, sum_of, Tables, code_of, label_cost, reached_at, turn_at, least_waiting}
 use Rattle.labelling.specs.Runs.{runs_offered, Ends}
 use Rattle.labelling.specs.Forks.{forks_offered, Closed}
 use Rattle.labelling.specs.Turns.{place_at, settled, turned_at, turned}
@@ -29,7 +28,7 @@ use Rattle.optimal.proofs.Trying.{link_within, Forked, forked_all, reach_turn}
 -- past the sets nothing is settled
 pub outside : {K : Type 0} (r : Rule K) (t : Tables K) (v I : ℕ) → r.size.sets ≤ I → (table_of r t).settled v I ≡ None
 outside {K} r t v I ge =
-    ap (λ y. settled_by (ltb v r.size.junctions) y (turn_at t (code_of r.size v I)) (label_at r t (code_of r.size v I)).cost) (le-ltb I r.size.sets ge)
+    ap (λ y. settled_by (ltb v r.size.junctions) y (turn_at t (code_of r.size v I)) (label_cost r t (code_of r.size v I))) (le-ltb I r.size.sets ge)
     ∙ neither (ltb v r.size.junctions)
   where
     neither : (b : Bool) → cond {A = Option K} b None None ≡ None
@@ -47,7 +46,7 @@ module _ {K : Type 0} (r : Rule K) (laws : Laws r.kind) (sums : (a b : K) → su
   I = p.1 % r.size.sets
 
   abbrev c : K
-  c = (label_at r s p.1).cost
+  c = (label_cost r s p.1)
 
   waits : Waits r s p.1 p.0
   waits = least_waits r s p least
@@ -65,7 +64,7 @@ module _ {K : Type 0} (r : Rule K) (laws : Laws r.kind) (sums : (a b : K) → su
   next = record {
     waits = (
       unsettled r s v I (ap (turn_at s) at ∙ waits.fresh),
-      reached_out r s v I vn In (ap (λ d. (label_at r s d).reached) at ∙ waits.reached) ∙ ap (λ d. Some (label_at r s d).cost) at,
+      reached_out r s v I vn In (ap (λ d. reached_at s d) at ∙ waits.reached) ∙ ap (λ d. Some (label_cost r s d)) at,
     );
     least = λ w J m h.
         let q = waiting_in r s w J m h in
@@ -78,12 +77,12 @@ module _ {K : Type 0} (r : Rule K) (laws : Laws r.kind) (sums : (a b : K) → su
   abbrev s1 : Tables K
   s1 = settled s p.1 (n + 1)
 
-  pub cheap : (w J : ℕ) → w < r.size.junctions → J < r.size.sets → (turn_at s1 (code_of r.size w J) ≡ 0 → ⊥) → (d : K) → Deriv r.kind l w J d → AtMost r.kind (label_at r s1 (code_of r.size w J)).cost d
+  pub cheap : (w J : ℕ) → w < r.size.junctions → J < r.size.sets → (turn_at s1 (code_of r.size w J) ≡ 0 → ⊥) → (d : K) → Deriv r.kind l w J d → AtMost r.kind (label_cost r s1 (code_of r.size w J)) d
   cheap w J wn Jn h d x =
       ⊎_elim
       (λ e.
       let q = code_same r.size w v J I Jn In (e ∙ sym at) in
-      ap (λ k. r.kind.below d (label_at r s k).cost) e
+      ap (λ k. r.kind.below d (label_cost r s k)) e
       ∙ settles laws inv law v I c next d (subst (λ y. Deriv r.kind l y I d) q.0 (subst (λ y. Deriv r.kind l w y d) q.1 x)))
       (λ ne. inv.cheapest w J _ d (settled_out r s w J wn Jn (λ z. h (settled_other s p.1 (n + 1) _ ne ∙ z))) x)
       (cases_eq (code_of r.size w J) p.1)
@@ -107,7 +106,7 @@ module _ {K : Type 0} (r : Rule K) (laws : Laws r.kind) (sums : (a b : K) → su
       let d = code_of r.size u J in
       let ne : d ≢ p.1 = λ e. let q = code_same r.size u v J I Jn In (e ∙ sym at) in ⊎_elim (λ a. a q.0) (λ b. b q.1) h in
       let same = settled_other s p.1 (n + 1) d ne in
-      settled_same r s after u J (go.grown.turns d ∙ same) (λ was. ap (λ (x : Label K). x.cost) (go.grown.labels d (λ z. was (sym same ∙ z)))))
+      settled_same r s after u J (go.grown.turns d ∙ same) (λ was. ap (λ x. unwrap_or x r.kind.zero) (go.grown.labels d (λ z. was (sym same ∙ z)))))
       (λ ge. outside r after u J ge ∙ sym (outside r s u J ge))
       (cases_lt J r.size.sets)
 
@@ -117,7 +116,7 @@ module _ {K : Type 0} (r : Rule K) (laws : Laws r.kind) (sums : (a b : K) → su
       let e = code_of r.size v J in
       let was : turn_at s1 e ≡ 0 → ⊥ = λ z. q.2 (go.grown.turns e ∙ z) in
       let some = go.traced.some v J q.0 q.1 (go.traced.reached v J q.0 q.1 q.2) in
-      let cost : (label_at r s1 e).cost ≡ d = sym (ap (λ (x : Label K). x.cost) (go.grown.labels e was)) ∙ q.3 in
+      let cost : (label_cost r s1 e) ≡ d = sym (ap (λ x. unwrap_or x r.kind.zero) (go.grown.labels e was)) ∙ q.3 in
       let x = subst (λ m. Reach r after (code_of r.size v (bit_or I J)) (r.kind.plus c m)) cost (forked.tried J q.1 some apart was) in
       known_at r after v (bit_or I J) vn (closed I J In q.1) (r.kind.plus c d) x.0 x.1
 

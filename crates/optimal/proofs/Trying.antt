@@ -1,16 +1,15 @@
 -- In a turn every candidate of the settled label is tried. Assumes nothing.
-use Rattle.std.proofs.Common.{◌≡◌, ℕ, suc, ◌+◌, ◌<◌, false, cond, eqb, length, get_or, Some, None, sym, ap, ◌∙◌, subst, ⊎_elim, arith}
+use Rattle.std.proofs.Common.{◌≡◌, ℕ, suc, ◌+◌, ◌<◌, false, cond, eqb, length, get_or, Some, None, sym, ap, ◌∙◌, subst, ⊎_elim, arith, unwrap_or, Option}
 use lib.Bits.{bit_and, bit_or}
 use Rattle.std.proofs.lemmas.Bool.{cases_lt, cond-true, cond-false, cond_both, eq-eqb, ne_eqb, eqb-true}
 use Rattle.network.specs.declared.run.Run.{Run}
 use Rattle.network.specs.Costs.{Laws, AtMost}
 use Rattle.network.specs.Layouts.{Layout, Link}
 use Rattle.theory.specs.Derivations.{Deriv, step, fork as joined_at}
-use Rattle.labelling.specs.declared.kinds.Label.{Label}
 use Rattle.labelling.specs.declared.kinds.Back.{Back}
 use Rattle.labelling.specs.declared.kinds.Back.TheVariants.{Run as ByRun, Fork}
 use Rattle.labelling.specs.declared.kinds.Place.{Place}
-use Rattle.labelling.specs.Tables.{Rule, sum_of, Tables, code_of, label_at, turn_at}
+use Rattle.labelling.specs.Tables.{Rule, sum_of, Tables, code_of, label_cost, turn_at}
 use Rattle.labelling.specs.Offers.{offered}
 use Rattle.labelling.specs.Runs.{other_end, led, along_to, along, runs_offered, Ends}
 use Rattle.labelling.specs.Forks.{joined, fork, forks_offered, Closed}
@@ -40,7 +39,7 @@ module _ {K : Type 0} (r : Rule K) (laws : Laws r.kind) (sums : (a b : K) → su
     (ends : Ends r.size.junctions l.runs) (closed : Closed r.size.sets)
     (n : ℕ) (from : Place K) (vn : from.v < r.size.junctions) (In : from.set < r.size.sets) (some : from.set ≡ 0 → ⊥) (s : Tables K)
     -- what is settled costs no more than any derivation
-    (cheap : (w J : ℕ) → w < r.size.junctions → J < r.size.sets → (turn_at s (code_of r.size w J) ≡ 0 → ⊥) → (d : K) → Deriv r.kind l w J d → AtMost r.kind (label_at r s (code_of r.size w J)).cost d) where
+    (cheap : (w J : ℕ) → w < r.size.junctions → J < r.size.sets → (turn_at s (code_of r.size w J) ≡ 0 → ⊥) → (d : K) → Deriv r.kind l w J d → AtMost r.kind (label_cost r s (code_of r.size w J)) d) where
   abbrev Go : Tables K → Type 0
   Go t = Going r l ends closed n from vn In some s t
 
@@ -53,7 +52,7 @@ module _ {K : Type 0} (r : Rule K) (laws : Laws r.kind) (sums : (a b : K) → su
   done t go w J wn Jn d x h =
       let c = code_of r.size w J in
       let was : turn_at s c ≡ 0 → ⊥ = λ z. h (go.grown.turns c ∙ z) in
-      (go.traced.reached w J wn Jn h, ap (λ (y : Label K). r.kind.below d y.cost) (go.grown.labels c was) ∙ cheap w J wn Jn was d x)
+      (go.traced.reached w J wn Jn h, ap (λ (y : Option K). r.kind.below d (unwrap_or y r.kind.zero)) (go.grown.labels c was) ∙ cheap w J wn Jn was d x)
 
   made : (t : Tables K) → Go t → (p : Place K) (b : Back) → p.v < r.size.junctions → p.set < r.size.sets → Deriv r.kind l p.v p.set p.cost
       → Reach r (offered r t p b) (code_of r.size p.v p.set) p.cost
@@ -99,14 +98,14 @@ module _ {K : Type 0} (r : Rule K) (laws : Laws r.kind) (sums : (a b : K) → su
   pub record Forked (j : ℕ) (t : Tables K) : Type 0 where
     pub ran : Ran (length l.runs) t
     pub tried : (J : ℕ) → J < j → (J ≡ 0 → ⊥) → bit_and from.set J ≡ 0 → (turn_at s (code_of r.size from.v J) ≡ 0 → ⊥)
-        → Reach r t (code_of r.size from.v (bit_or from.set J)) (r.kind.plus from.cost (label_at r s (code_of r.size from.v J)).cost)
+        → Reach r t (code_of r.size from.v (bit_or from.set J)) (r.kind.plus from.cost (label_cost r s (code_of r.size from.v J)))
 
   fork_made : (j : ℕ) (t : Tables K) → j < r.size.sets → Go t → (j ≡ 0 → ⊥) → bit_and from.set j ≡ 0 → (turn_at s (code_of r.size from.v j) ≡ 0 → ⊥)
-      → Reach r (fork r from j t) (code_of r.size from.v (bit_or from.set j)) (r.kind.plus from.cost (label_at r s (code_of r.size from.v j)).cost)
+      → Reach r (fork r from j t) (code_of r.size from.v (bit_or from.set j)) (r.kind.plus from.cost (label_cost r s (code_of r.size from.v j)))
   fork_made j t jn go ne apart was =
       let c = code_of r.size from.v j in
       let now : turn_at t c ≡ 0 → ⊥ = λ z. was (sym (go.grown.turns c) ∙ z) in
-      let m = (label_at r t c).cost in
+      let m = (label_cost r t c) in
       let inner = joined r t from j (sum_of r from.cost m) in
       let is : fork r from j t ≡ offered r t (record { v = from.v; set = bit_or from.set j; cost = r.kind.plus from.cost m }) (Fork j) =
       cond-false (eqb j 0) t (cond (eqb (bit_and from.set j) 0) (cond (eqb (turn_at t c) 0) t inner) t) (ne_eqb j 0 ne)
@@ -114,8 +113,8 @@ module _ {K : Type 0} (r : Rule K) (laws : Laws r.kind) (sums : (a b : K) → su
       ∙ cond-false (eqb (turn_at t c) 0) t inner (ne_eqb _ 0 now)
       ∙ ap (joined r t from j) (sums from.cost m) in
       let x = joined_at apart (derived t go) (settled_deriv r laws l n t go.traced from.v j vn jn now) in
-      subst (λ y. Reach r y (code_of r.size from.v (bit_or from.set j)) (r.kind.plus from.cost (label_at r s c).cost)) (sym is)
-      (subst (λ (y : Label K). Reach r (offered r t (record { v = from.v; set = bit_or from.set j; cost = r.kind.plus from.cost m }) (Fork j)) (code_of r.size from.v (bit_or from.set j)) (r.kind.plus from.cost y.cost))
+      subst (λ y. Reach r y (code_of r.size from.v (bit_or from.set j)) (r.kind.plus from.cost (label_cost r s c))) (sym is)
+      (subst (λ (y : Option K). Reach r (offered r t (record { v = from.v; set = bit_or from.set j; cost = r.kind.plus from.cost m }) (Fork j)) (code_of r.size from.v (bit_or from.set j)) (r.kind.plus from.cost (unwrap_or y r.kind.zero)))
       (go.grown.labels c was)
       (made t go (record { v = from.v; set = bit_or from.set j; cost = r.kind.plus from.cost m }) (Fork j) vn (closed from.set j In jn) x))
 
@@ -129,7 +128,7 @@ module _ {K : Type 0} (r : Rule K) (laws : Laws r.kind) (sums : (a b : K) → su
         ⊎_elim
         (λ less. stays _ _ (h.tried J less ne apart was))
         (λ ge. let e : j ≡ J = omega arith in
-        subst (λ i. Reach r (fork r from j t) (code_of r.size from.v (bit_or from.set i)) (r.kind.plus from.cost (label_at r s (code_of r.size from.v i)).cost)) e
+        subst (λ i. Reach r (fork r from j t) (code_of r.size from.v (bit_or from.set i)) (r.kind.plus from.cost (label_cost r s (code_of r.size from.v i)))) e
         (fork_made j t jn h.ran.going (λ z. ne (omega arith)) (ap (bit_and from.set) e ∙ apart) (λ z. was (ap (λ i. turn_at s (code_of r.size from.v i)) (sym e) ∙ z))))
         (cases_lt J j);
   }

@@ -6,7 +6,7 @@ use Rattle.network.specs.Bounds.{root, sets, all_others, Lawful}
 use Rattle.theory.specs.Derivations.{Deriv, uses, Same, LeastCost}
 use Rattle.theory.specs.DreyfusWagner.{DreyfusWagner}
 use Rattle.labelling.specs.declared.kinds.Outcome.TheVariants.{Finished, NoneWaits, Stopped}
-use Rattle.labelling.specs.Tables.{exactly, Tables, codes, code_of, label_at, turn_at, least_waiting}
+use Rattle.labelling.specs.Tables.{exactly, Tables, codes, code_of, label_cost, turn_at, least_waiting}
 use Rattle.labelling.specs.Runs.{Ends}
 use Rattle.labelling.specs.Starts.{size_of, rule_of, labelling_by, labelling, Within}
 use Rattle.labelling.specs.Labelling.{Labelled}
@@ -30,7 +30,7 @@ pub record Given {K : Type 0} (kind : Kind K) (l : Layout K) (bound : ℕ → �
 
 -- the cost of the label (v, I)
 abbrev pub cost_at : {K : Type 0} → Kind K → (ℕ → ℕ → K) → Layout K → Tables K → ℕ → ℕ → K
-cost_at kind bound l t v I = (label_at (rule_of kind bound l) t (code_of (size_of l) v I)).cost
+cost_at kind bound l t v I = (label_cost (rule_of kind bound l) t (code_of (size_of l) v I))
 
 -- the label (v, I) is settled
 pub record Settled {K : Type 0} (l : Layout K) (t : Tables K) (v I : ℕ) : Type 0 where

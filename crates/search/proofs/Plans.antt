@@ -11,7 +11,6 @@ use Rattle.network.specs.Layouts.{Layout, picked}
 use Rattle.network.specs.Bounds.{root, all_others}
 use Rattle.labelling.specs.declared.kinds.Back.{Back}
 use Rattle.labelling.specs.declared.kinds.Back.TheVariants.{Start, Run as ByRun, Fork}
-use Rattle.labelling.specs.declared.kinds.Label.{Label}
 use Rattle.labelling.specs.declared.kinds.Outcome.{Outcome}
 use Rattle.labelling.specs.declared.kinds.Outcome.TheVariants.{Finished}
 use Rattle.labelling.specs.declared.kinds.Size.{Size}
@@ -148,7 +147,7 @@ module _ {K : Type 0} (kind : Kind K) (l : Layout K) (t : Tables K) (count : ℕ
   pub finish_turns : Drawable l t count → turn_of size l.runs t.ways (root l) (size.sets - 1) ≤ count
   finish_turns d = subst (λ (s : Size). turn_of s l.runs t.ways (root l) (s.sets - 1) ≤ count) (sym is-size) d.turns
 
-  pub finished_as : (p : Plan K) (row row' : List ℕ) → ((d : Label K) → p ≡ record { cost = (get_or t.labels (code_of size (root l) (size.sets - 1)) d).cost; count = count })
+  pub finished_as : (p : Plan K) (row row' : List ℕ) → p ≡ record { cost = cost_at kind t (code_of size (root l) (size.sets - 1)); count = count }
       → row' ≡ drawn size l.runs t.ways (suc count) (root l) (size.sets - 1) (wiped (length l.runs) 0 row)
       → record { answer = Ok p; row = row' } ≡ ended_by kind l t count Finished row
   finished_as p row row' is-p is_row =
@@ -156,7 +155,7 @@ module _ {K : Type 0} (kind : Kind K) (l : Layout K) (t : Tables K) (count : ℕ
         answer = priced_at (cost_at kind t (code_of s (root l) (s.sets - 1))) count;
         row = drawn s l.runs t.ways (suc count) (root l) (s.sets - 1) (wiped (length l.runs) 0 row);
       } in
-      let first : ◌≡◌ {A = Planned K} (record { answer = Ok p; row = row' }) (by size) = λ i. record { answer = Ok (is-p (record { reached = false; cost = kind.zero }) i); row = is_row i } in
+      let first : ◌≡◌ {A = Planned K} (record { answer = Ok p; row = row' }) (by size) = λ i. record { answer = Ok (is-p i); row = is_row i } in
       first ∙ ap by is-size
 
 -- a promise by cases, where the case is known

@@ -1,5 +1,5 @@
 // A plan: the questions, the labelling, and the answer.
-ghost use Rattle.std.specs.Prelude.{◌≡◌, suc, ◌-◌, ◌<◌, ◌≤◌, length, Err, MatchResult, slice_index_or};
+ghost use Rattle.std.specs.Prelude.{◌≡◌, suc, ◌-◌, ◌<◌, ◌≤◌, length, Err, MatchResult};
 ghost use Rattle.network.specs.Layouts.{Priced};
 ghost use Rattle.district.specs.Model.{layout_of};
 ghost use Rattle.estimate.specs.Estimates.{Prepared};
@@ -10,7 +10,7 @@ ghost use Rattle.labelling.specs.Desks.{tables_on, places_on};
 ghost use Rattle.optimal.specs.Drawing.{drawn};
 ghost use Rattle.search.specs.Desks.{Stands};
 ghost use Rattle.search.specs.Drawing.{turn_of, Settled};
-ghost use Rattle.search.specs.Planning.{questions, concluded, Carried, Drawable};
+ghost use Rattle.search.specs.Planning.{cost_at, questions, concluded, Carried, Drawable};
 ghost use Rattle.search.specs.Promise.{Right};
 
 use crate::answer::{NoPlan, Plan};
@@ -44,9 +44,9 @@ fn ask<K: Cost>(
 // What the label at a code costs.
 fn cost_at<Q: Queue, E: Estimator<Cost = Q::Cost>>(desk: &Desk<'_, Q, E>, code: usize) -> Q::Cost
     requires { code < length desk.now.labels.now }
-    ensures { (d : _) → result ≡ (slice_index_or desk.now.labels.now code d).cost }
+    ensures { result ≡ cost_at Q.Cost.Cost.kind (tables_on desk.now) code }
 {
-    desk.labels[code].cost
+    desk.labels[code].unwrap_or(Q::Cost::zero())
 }
 
 // The cost of the root with all others, and its runs drawn into the answer row.
@@ -61,7 +61,7 @@ fn finish<Q: Queue, E: Estimator<Cost = Q::Cost>>(
     requires turns { turn_of drawing.now.size drawing.now.runs.now drawing.now.ways.now root (drawing.now.size.sets - 1) ≤ turns }
     requires labels { codes drawing.now.size ≤ length desk.now.labels.now }
     requires room { length drawing.now.runs.now ≤ length answer.old }
-    ensures cost { (d : _) → result ≡ record { cost = (slice_index_or desk.now.labels.now (code_of drawing.now.size root (drawing.now.size.sets - 1)) d).cost; count = turns } }
+    ensures cost { result ≡ record { cost = cost_at Q.Cost.Cost.kind (tables_on desk.now) (code_of drawing.now.size root (drawing.now.size.sets - 1)); count = turns } }
     ensures row { answer.new ≡ drawn drawing.now.size drawing.now.runs.now drawing.now.ways.now (suc turns) root (drawing.now.size.sets - 1) (wiped (length drawing.now.runs.now) 0 answer.old) }
 {
     let all = drawing.size.sets - 1;

@@ -1,5 +1,7 @@
 -- Trials that report what calls got. Assumes nothing.
-use Rattle.std.proofs.Common.{◌≡◌, ℕ, true, false, eqb, List, [], ◌∷◌, ◌++◌, length, Some, None, Option, sym, refl, ap, ◌∙◌, subst, arith}
+use Rattle.std.proofs.Common.{◌≡◌, ℕ, Bool, true, false, cond, Bor, MatchOption, eqb, List, [], ◌∷◌, ◌++◌, length, Some, None, Option, sym, refl, ap, ◌∙◌, subst, arith}
+use Rattle.std.specs.List.{find}
+use Rattle.std.specs.Option.{option_map}
 use Rattle.network.specs.Costs.{Kind}
 use Rattle.commands.specs.declared.command.QueueChoice.{QueueChoice}
 use Rattle.commands.specs.declared.command.QueueChoice.TheVariants.{Row, Heap}
@@ -33,6 +35,28 @@ none_last tools (x ∷ ts) t h = none_last tools ts t h.1
 
 apart : true ≡ false → ⊥
 apart e = let z : ◌≡◌ {A = ℕ} 0 1 = cc in omega arith
+
+none_found : {K : Type 0} (tools : Option Tools) (ts : List (Trial K)) → None ≡ find (λ t. reporting tools t.tools) ts → NoneReports tools ts
+none_found tools [] e = tt
+none_found tools (t ∷ ts) e = by (reporting tools t.tools) refl e (none_found tools ts)
+  where
+    by : (b : Bool) → reporting tools t.tools ≡ b → None ≡ cond b (Some t) (find (λ x. reporting tools x.tools) ts) → (None ≡ find (λ x. reporting tools x.tools) ts → NoneReports tools ts) → NoneReports tools (t ∷ ts)
+    by true is e rest = cc
+    by false is e rest = (is, rest e)
+
+some_found : {K : Type 0} (tools : Option Tools) (ts : List (Trial K)) (x : Trial K) → Some x ≡ find (λ t. reporting tools t.tools) ts → reporting tools x.tools ≡ true
+some_found tools [] x e = cc
+some_found tools (t ∷ ts) x e = by (reporting tools t.tools) refl e (some_found tools ts x)
+  where
+    by : (b : Bool) → reporting tools t.tools ≡ b → Some x ≡ cond b (Some t) (find (λ y. reporting tools y.tools) ts) → (Some x ≡ find (λ y. reporting tools y.tools) ts → reporting tools x.tools ≡ true) → reporting tools x.tools ≡ true
+    by true is e rest = let same : x ≡ t = cc in subst (λ y. reporting tools y.tools ≡ true) (sym same) is
+    by false is e rest = rest e
+
+-- what `find` answers
+pub found : {K : Type 0} (tools : Option Tools) (ts : List (Trial K)) (r : Option (Bor (Trial K))) → option_map (λ t. t.now) r ≡ find (λ t. reporting tools t.tools) ts
+    → MatchOption r (NoneReports tools ts) (λ t. reporting tools t.now.tools ≡ true)
+found tools ts None e = none_found tools ts e
+found tools ts (Some x) e = some_found tools ts x.now e
 
 module _ {K : Type 0} (kind : Kind K) (s : Sheet K) where
   each_push : (tools : Tools) (ts : List (Trial K)) (t : Trial K) → SheetTried kind s tools t → EachTried kind s ts → EachTried kind s (ts ++ t ∷ [])

@@ -1,4 +1,7 @@
-// What ends the program with status 1.
+// What ends a program with status 1.
+ghost use Rattle.std.specs.Prelude.{◌≡◌};
+ghost use Rattle.console.specs.declared.fault.Fault.TheVariants.{Memory as OutOfMemory};
+
 use std::alloc::AllocError;
 use std::{fmt, io};
 
@@ -25,6 +28,8 @@ impl fmt::Display for Fault {
 }
 
 impl From<AllocError> for Fault {
+    ghost from_gives = { λ _ fault. fault ≡ OutOfMemory };
+
     fn from(_e: AllocError) -> Fault {
         Fault::Memory
     }
