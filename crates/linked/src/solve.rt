@@ -60,15 +60,11 @@ fn plan_with(
         (λ answer. Asked money_kind (Far money_kind) (desk_of places) (seen (model_of district.now)) limit row.old row.new answer) }
 {
     let nothing = Money { amount: 0 };
-    let unreached = Label {
-        reached: false,
-        cost: nothing,
-    };
     let unsettled = Way {
         turn: 0,
         back: Back::Start,
     };
-    let mut labels = vec![in heap; unreached; places]?;
+    let mut labels = vec![in heap; None; places]?;
     let mut ways = vec![in heap; unsettled; places]?;
     let mut keys = vec![in heap; nothing; places]?;
     let mut codes = vec![in heap; 0u32; places]?;

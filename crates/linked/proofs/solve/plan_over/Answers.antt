@@ -1,4 +1,4 @@
-use Rattle.std.proofs.Common.{◌≡◌, length, sym, ap, ◌∙◌, subst}
+use Rattle.std.proofs.Common.{◌≡◌, length, ap, ◌∙◌, subst}
 use lib.ListN.{length-replicate}
 use Rattle.network.specs.Layouts.{Layout}
 use Rattle.network.specs.declared.money.Money.{Money}
