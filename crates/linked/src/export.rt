@@ -1,51 +1,13 @@
 // The functions that C calls. A slice is a pointer and a length there, and `heap` is nothing.
 ghost use Rattle.std.specs.Prelude.{◌≡◌};
-ghost use Rattle.linked.specs.Lists.{Linked, found_of};
+ghost use Rattle.linked.specs.Lists.{Linked};
 
 use crate::kinds::{Found, Street};
 use crate::solve::solve;
 use labelling::{Label, Way};
 use network::Money;
-use search::{NoPlan, Plan};
-use std::alloc::{AllocError, Global};
+use std::alloc::Global;
 use std::mem::size_of;
-
-fn found(said: Result<Result<Plan<Money>, NoPlan<Money>>, AllocError>) -> Found
-    ensures { result ≡ found_of said }
-{
-    match said {
-        Err(_) => Found {
-            cost: 0,
-            count: 0,
-            number: u32::MAX,
-        },
-        Ok(Ok(plan)) => Found {
-            cost: plan.cost.amount,
-            count: plan.count,
-            number: 0,
-        },
-        Ok(Err(why)) => {
-            let number = why.number() as u32;
-            match why {
-                NoPlan::Refused(_) => Found {
-                    cost: 0,
-                    count: 0,
-                    number,
-                },
-                NoPlan::Unjoined(count) => Found {
-                    cost: 0,
-                    count,
-                    number,
-                },
-                NoPlan::Stopped(count, floor) => Found {
-                    cost: floor.amount,
-                    count,
-                    number,
-                },
-            }
-        }
-    }
-}
 
 // A cheapest network for the outlets, in at most `limit` turns and with so many places for labels. `row` then has a byte
 // for each run laid, 1 if it belongs to the network. A street or an outlet that is refused is passed over.
@@ -61,7 +23,7 @@ pub extern "C" fn duct_plan(
 ) -> Found
     ensures { Linked junctions streets.now outlets.now limit places row.old row.new result }
 {
-    found(solve(heap, junctions, streets, outlets, limit, places, row))
+    Found::from(solve(heap, junctions, streets, outlets, limit, places, row))
 }
 
 // What a place for a label takes, ways back and heap included: a label, a way back, a key, a code and its place.

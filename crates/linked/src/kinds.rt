@@ -1,4 +1,10 @@
 // What crosses to C and back.
+ghost use Rattle.std.specs.Prelude.{◌≡◌};
+ghost use Rattle.linked.specs.Lists.{found_of};
+
+use crate::unsolved::Unsolved;
+use network::Money;
+use search::{NoPlan, Plan};
 
 // A run to lay.
 #[repr(C)]
@@ -10,11 +16,31 @@ pub struct Street {
 }
 
 // What a plan found: number 0 with its cost and count, or the number of a refusal with what it carries, zeroes where it
-// carries nothing. A floor stands as the cost. Number 4,294,967,295 says that there was not enough memory.
+// carries nothing. A floor stands as the cost. Number 4,294,967,295 says that there was not enough memory: a C struct
+// has no variants.
 #[repr(C)]
 #[derive(Clone, Copy)]
 pub struct Found {
     pub cost: u64,
     pub count: u32,
     pub number: u32,
+}
+
+impl From<Result<Plan<Money>, Unsolved>> for Found {
+    ghost from_gives = { λ said found. found ≡ found_of said };
+
+    fn from(said: Result<Plan<Money>, Unsolved>) -> Found {
+        let (cost, count, number) = match said {
+            Ok(plan) => (plan.cost.amount, plan.count, 0),
+            Err(Unsolved::Memory) => (0, 0, u32::MAX),
+            Err(Unsolved::NoPlan(NoPlan::Refused(why))) => (0, 0, why.number() as u32),
+            Err(Unsolved::NoPlan(NoPlan::Unjoined(count))) => (0, count, 18),
+            Err(Unsolved::NoPlan(NoPlan::Stopped(count, floor))) => (floor.amount, count, 19),
+        };
+        Found {
+            cost,
+            count,
+            number,
+        }
+    }
 }

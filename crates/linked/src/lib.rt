@@ -5,3 +5,4 @@ mod calls;
 pub mod export;
 pub mod kinds;
 mod solve;
+mod unsolved;

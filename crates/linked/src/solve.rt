@@ -1,6 +1,5 @@
 // The making, the calls, and the plan.
-ghost use Rattle.std.specs.Prelude.{◌≡◌, length, MatchResult};
-ghost use Rattle.network.specs.Layouts.{Priced};
+ghost use Rattle.std.specs.Prelude.{◌≡◌, length, MatchOption};
 ghost use Rattle.network.specs.Money.{money_kind};
 ghost use Rattle.district.specs.Model.{model_of, seen};
 ghost use Rattle.heap.specs.Heaps.{codes_held};
@@ -8,18 +7,19 @@ ghost use Rattle.farthest.specs.Distances.{Far};
 ghost use Rattle.farthest.specs.Memories.{has_room};
 ghost use Rattle.replay.specs.Calls.{desk};
 ghost use Rattle.replay.specs.Sequence.{Asked};
-ghost use Rattle.linked.specs.Lists.{desk_of, Solved};
+ghost use Rattle.linked.specs.Lists.{desk_of, answer_of, Solved};
 
 use crate::calls::{lay_all, mark_all};
 use crate::kinds::Street;
+use crate::unsolved::Unsolved;
 use district::district::{District, Memory};
 use farthest::Farthest;
 use heap::Heap;
-use labelling::{Back, Label, Way};
+use labelling::{Back, Desk, Label, Way};
 use network::{Money, Run};
 use search::plan::plan;
 use search::{NoPlan, Plan};
-use std::alloc::{AllocError, Global};
+use std::alloc::Global;
 
 // Twelve places for each of 1,024 junctions.
 const DISTANCES: usize = 12_288;
@@ -36,13 +36,16 @@ fn plan_over(
     distances: &mut [Option<Money>],
     row: &mut [u8],
 ) -> Result<Plan<Money>, NoPlan<Money>>
-    requires { Priced money_kind (model_of district.now).runs }
     ensures { Asked money_kind (Far money_kind) (desk (length labels.old) (length ways.old) (codes_held keys.old codes.old places.old) (has_room (length distances.old))) (seen (model_of district.now)) limit row.old row.new result }
 {
-    let mut queue = Heap::over(keys, codes, places);
-    let mut farthest = Farthest::over(distances);
+    let mut desk = Desk {
+        labels,
+        ways,
+        queue: Heap::over(keys, codes, places),
+        estimator: Farthest::over(distances),
+    };
     let view = district.view();
-    plan(&view, limit, labels, ways, &mut queue, &mut farthest, row)
+    plan(&view, limit, &mut desk, row)
 }
 
 // A plan with so many places for labels.
@@ -52,28 +55,22 @@ fn plan_with(
     limit: u32,
     places: usize,
     row: &mut [u8],
-) -> Result<Result<Plan<Money>, NoPlan<Money>>, AllocError>
-    requires { Priced money_kind (model_of district.now).runs }
-    ensures { MatchResult result
-        (λ said. Asked money_kind (Far money_kind) (desk_of places) (seen (model_of district.now)) limit row.old row.new said)
-        (λ _. row.new ≡ row.old) }
+) -> Result<Plan<Money>, Unsolved>
+    ensures { MatchOption (answer_of result) (row.new ≡ row.old)
+        (λ answer. Asked money_kind (Far money_kind) (desk_of places) (seen (model_of district.now)) limit row.old row.new answer) }
 {
     let nothing = Money { amount: 0 };
-    let unreached = Label {
-        reached: false,
-        cost: nothing,
-    };
     let unsettled = Way {
         turn: 0,
         back: Back::Start,
     };
-    let mut labels = vec![in heap; unreached; places]?;
+    let mut labels = vec![in heap; None; places]?;
     let mut ways = vec![in heap; unsettled; places]?;
     let mut keys = vec![in heap; nothing; places]?;
     let mut codes = vec![in heap; 0u32; places]?;
     let mut by_code = vec![in heap; 0u32; places]?;
     let mut distances = vec![in heap; None; DISTANCES]?;
-    Ok(plan_over(
+    let plan = plan_over(
         district,
         limit,
         &mut labels,
@@ -83,7 +80,8 @@ fn plan_with(
         &mut by_code,
         &mut distances,
         row,
-    ))
+    )?;
+    Ok(plan)
 }
 
 // Makes a district with room for the streets, lays them, marks the outlets and plans.
@@ -95,7 +93,7 @@ pub(crate) fn solve(
     limit: u32,
     places: usize,
     row: &mut [u8],
-) -> Result<Result<Plan<Money>, NoPlan<Money>>, AllocError>
+) -> Result<Plan<Money>, Unsolved>
     ensures { Solved junctions streets.now outlets.now limit places row.old row.new result }
 {
     let run = Run {
@@ -107,10 +105,7 @@ pub(crate) fn solve(
         runs: vec![in heap; run; streets.len()]?,
         open: vec![in heap; false; streets.len()]?,
     };
-    let mut district = match District::make(junctions, memory) {
-        Ok(district) => district,
-        Err(unmade) => return Ok(Err(NoPlan::Refused(unmade.why))),
-    };
+    let mut district = District::make(junctions, memory)?;
     lay_all(&mut district, streets);
     mark_all(&mut district, outlets);
     plan_with(heap, &district, limit, places, row)
