@@ -6,6 +6,7 @@ ghost use Rattle.commands.specs.Commands.{queue_of, estimator_of, part_of, with_
 use crate::command::{Call, Command, EstimatorChoice, PlanWords, QueueChoice};
 use lines::{Parts, Words, fill, number, read_parts};
 
+// No `TryFrom`: its error would be an empty type, which each caller turns into none.
 fn read_queue(word: &[u8]) -> Option<QueueChoice>
     ensures { result ≡ queue_of word.now }
 {

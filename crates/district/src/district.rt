@@ -18,7 +18,7 @@ pub const MOST_OUTLETS: usize = 12;
 pub struct District<K: Cost> {
     junctions: Junction,
     laid: RunNumber,
-    // Two rows and not one: a search reads the marks beside the runs, and a run is closed by its mark alone.
+    // Two rows, as they were brought: a search can be lent other marks beside the same runs, and the shorter row is the capacity.
     // The run records: the first `laid` are the runs.
     runs: Vec<Run<K>>,
     // The open marks: run i is open if the i-th says so.

@@ -1,4 +1,5 @@
 // What the program answers.
+use console::Marked;
 use std::fmt;
 
 #[derive(Drop)]
@@ -16,18 +17,6 @@ pub enum Answer {
     NotPlanned(u64),
 }
 
-// The numbers of the runs that a row marks.
-fn write_runs<W: fmt::Write>(f: &mut fmt::Formatter<W>, row: &[u8]) -> fmt::Result {
-    let mut some = false;
-    for (number, mark) in row.iter().enumerate() {
-        if *mark == 1 {
-            write!(f, " {number}")?;
-            some = true;
-        }
-    }
-    if some { Ok(()) } else { write!(f, " none") }
-}
-
 impl fmt::Display for Answer {
     fn fmt<W: fmt::Write>(&self, f: &mut fmt::Formatter<W>) -> fmt::Result {
         match self {
@@ -41,9 +30,8 @@ impl fmt::Display for Answer {
             Answer::Laid(run) => write!(f, "run {run}"),
             Answer::Marked(junction) => write!(f, "marked {junction}"),
             Answer::Planned { cost, row, count } => {
-                write!(f, "cost {cost}, runs")?;
-                write_runs(f, row)?;
-                write!(f, ", count {count}")
+                let runs = Marked { row };
+                write!(f, "cost {cost}, runs{runs}, count {count}")
             }
             Answer::Unjoined { count } => write!(f, "refused 18, count {count}"),
             Answer::Stopped { count, floor } => {

@@ -3,7 +3,6 @@ ghost use Rattle.std.specs.Prelude.{◌≡◌};
 ghost use Rattle.district.specs.Model.{layout_of};
 ghost use Rattle.duct.specs.Scopes.{all_turns, allowed, scoped};
 
-use crate::rows::row_of;
 use district::view::View;
 use estimate::{Estimator, Silent};
 use labelling::{Back, Label, Size, Way, room};
@@ -76,9 +75,9 @@ fn plan_with<Q: Queue, E: Estimator<Cost = Q::Cost>>(
         turn: 0,
         back: Back::Start,
     };
-    let mut labels = row_of(heap, unreached, scope.labels)?;
-    let mut ways = row_of(heap, unsettled, scope.labels)?;
-    let mut row = row_of(heap, 0u8, view.runs.len())?;
+    let mut labels = vec![in heap; unreached; scope.labels]?;
+    let mut ways = vec![in heap; unsettled; scope.labels]?;
+    let mut row = vec![in heap; 0u8; view.runs.len()]?;
     match plan(
         view,
         scope.turns,
@@ -105,7 +104,7 @@ fn plan_queued<Q: Queue>(
     }
 }
 
-// A cheapest network of a view, as a line asks for it, or why there is none.
+// A cheapest network of a view, as a line asks for it, or why there is none. Only memory ends the program, and `?` passes it on alone.
 pub fn plan_view<K: Cost>(
     heap: Global,
     view: &View<'_, K>,
@@ -115,7 +114,7 @@ pub fn plan_view<K: Cost>(
     let choice = said.estimator.unwrap_or(EstimatorChoice::Silent);
     match said.queue.unwrap_or(QueueChoice::Row) {
         QueueChoice::Row => {
-            let mut places = row_of(heap, None, scope.labels)?;
+            let mut places = vec![in heap; None; scope.labels]?;
             plan_queued(heap, view, choice, scope, &mut Row::over(&mut places))
         }
     }

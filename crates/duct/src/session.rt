@@ -4,8 +4,8 @@ ghost use Rattle.duct.specs.Replies.{Opened, Replied};
 ghost use Rattle.text.specs.Commands.{understood};
 
 use crate::answer::Answer;
-use crate::fault::Fault;
 use crate::site::Site;
+use console::Fault;
 use std::alloc::{AllocError, Global};
 use text::{Command, next_line, read_line};
 

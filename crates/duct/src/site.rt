@@ -6,7 +6,6 @@ ghost use Rattle.duct.specs.Sites.{model, compared, cost_said, Started, Answered
 
 use crate::answer::Answer;
 use crate::planner::plan_view;
-use crate::rows::row_of;
 use district::district::{District, Memory};
 use network::{Money, Refusal, Run, RunNumber};
 use search::NoPlan;
@@ -35,7 +34,8 @@ fn compare(planned: Option<u64>, cost: u64) -> Answer
 }
 
 impl Site {
-    // A fresh district, over rows of its own.
+    // A fresh district, over rows of its own. A Result in a Result, since a refusal is what the line gets and only memory ends the program:
+    // one enum of both would be taken apart again by its only caller.
     pub fn make(
         heap: Global,
         junctions: u64,
@@ -50,8 +50,8 @@ impl Site {
             cost: Money { amount: 0 },
         };
         let memory = Memory {
-            runs: row_of(heap, run, places)?,
-            open: row_of(heap, false, places)?,
+            runs: vec![in heap; run; places]?,
+            open: vec![in heap; false; places]?,
         };
         match District::make(junctions, memory) {
             Ok(district) => Ok(Ok(Site {

@@ -1,11 +1,10 @@
 -- The greater of two lawful bounds is lawful. Assumes nothing.
-use Rattle.std.proofs.Common.{◌≡◌, ℕ, ◌^◌, ◌≤◌, Bool, true, cond, ◌&&◌, Ok, Err, Result, sym, ◌∙◌, arith}
-use Rattle.std.proofs.lemmas.Bool.{cond_both, cond-true, and_parts}
-use Rattle.network.specs.Costs.{Kind, Laws, AtMost}
+use Rattle.std.proofs.Common.{◌≡◌, ℕ, ◌^◌, ◌≤◌}
+use Rattle.std.proofs.lemmas.Bool.{cond_both}
+use Rattle.network.specs.Costs.{Kind, Laws, AtMost, greater}
 use Rattle.network.specs.Layouts.{Layout}
 use Rattle.network.specs.Bounds.{Lawful}
 use Rattle.estimate.specs.Estimates.{Prepared}
-use Rattle.estimate.specs.Greater.{greater}
 use Rattle.network.proofs.Order.{le_trans, mono_l, greater_l, greater_r, greater_le}
 
 module _ {K : Type 0} {kind : Kind K} (laws : Laws kind) (l : Layout K) (E F : ℕ → ℕ → K) where
@@ -33,11 +32,3 @@ module _ {K : Type 0} {kind : Kind K} (laws : Laws kind) (l : Layout K) (E F : �
     no_set = λ v I h. greater_zero (p.no_set v I h) (q.no_set v I h);
     no_outlet = λ v I h. greater_zero (p.no_outlet v I h) (q.no_outlet v I h);
   }
-
--- where both fit, the second's answer is the answer of both
-pub both_fit : {X : Type 0} (a b : Bool) (yes no r : X) → a && b ≡ true → r ≡ cond b yes no → r ≡ cond (a && b) yes no
-both_fit a b y n r h e = e ∙ (cond-true b _ _ (and_parts a b h).1 ∙ sym (cond-true (a && b) _ _ h))
-
--- what fits is not refused
-pub not_refused : {X E G : Type 0} (b : Bool) (x : X) (e : E) (r : Result X E) → b ≡ true → r ≡ cond b (Ok x) (Err e) → r ≡ Err e → G
-not_refused b x e r h p q = let s : Ok x ≡ Err e = sym (p ∙ cond-true b _ _ h) ∙ q in absurd (let z : ◌≡◌ {A = ℕ} 0 1 = cc in omega arith)

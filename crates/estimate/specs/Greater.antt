@@ -1,7 +1,6 @@
 -- The greater of two bounds. Assumes nothing.
 use Rattle.std.specs.Prelude.{◌≡◌, ℕ}
-pub use Rattle.network.specs.Costs.{greater}
-use Rattle.network.specs.Costs.{Kind}
+use Rattle.network.specs.Costs.{Kind, greater}
 
 -- the bound is everywhere the greater of one that M names and one that N names
 pub record GreaterOf {K : Type 0} (kind : Kind K) (M N : (ℕ → ℕ → K) → Type 0) (bound : ℕ → ℕ → K) : Type 0 where

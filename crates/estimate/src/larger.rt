@@ -1,6 +1,7 @@
 // The estimator that says the greater of what two others say.
 ghost use Rattle.std.specs.Prelude.{◌≡◌, ◌&&◌, ◌++◌};
-ghost use Rattle.estimate.specs.Greater.{greater, GreaterOf};
+ghost use Rattle.network.specs.Costs.{greater};
+ghost use Rattle.estimate.specs.Greater.{GreaterOf};
 
 use crate::estimator::Estimator;
 use district::view::View;
@@ -37,8 +38,7 @@ impl<A: Estimator, B: Estimator<Cost = A::Cost>> Estimator for Larger<A, B> {
     }
 
     fn estimate(&self, v: Junction, set: u16) -> A::Cost {
-        let a = self.first.estimate(v, set);
-        let b = self.second.estimate(v, set);
-        if a.is_below(b) { b } else { a }
+        let first = self.first.estimate(v, set);
+        first.greater(self.second.estimate(v, set))
     }
 }

@@ -1,18 +1,17 @@
 -- The farthest outlet bounds what is left to pay. Assumes nothing.
 use Rattle.std.proofs.Common.{◌≡◌, ℕ, zero, suc, ◌+◌, ◌-◌, ◌*◌, ◌^◌, ◌<◌, ◌≤◌, Bool, true, false, ltb, ◌⊎◌, List, length, get_or, Some, None, Option, unwrap_or, sym, refl, ap, ◌∙◌, subst, inl, inr, arith}
 use Rattle.std.proofs.lemmas.Bool.{cases_eq, cases_Bool, both_ways, ltb-true, lt-ltb, cond-true, cond_both}
-use Rattle.network.specs.Costs.{Kind, Laws}
+use Rattle.network.specs.Costs.{Kind, Laws, greater}
 use Rattle.network.specs.Layouts.{Layout, OpenSet, Joins, cost_of}
 use Rattle.network.specs.Bounds.{Missing, Lawful}
 use Rattle.network.specs.declared.run.Run.{Run}
-use Rattle.estimate.specs.Greater.{greater}
 use Rattle.farthest.specs.Trials.{open_runs, table}
 use Rattle.farthest.specs.Distances.{Distances, Measured, in_set, farthest, far_bound}
 use Rattle.farthest.specs.Memories.{in_row}
 use Rattle.farthest.proofs.Graph.{Way, stay, go, Within, Part, total, stand}
 use Rattle.farthest.proofs.Masks.{all_in, in_has, has_in}
 use Rattle.farthest.proofs.Numbered.{same_cost, way_by, path_by, listed, runs_of}
-use Rattle.estimate.proofs.Order.{le_eq, le_trans, mono_l, mono_r, le_plus_l, greater_l, greater_r, greater_le}
+use Rattle.network.proofs.Order.{le_eq, le_trans, mono_l, mono_r, le_plus_l, greater_l, greater_r, greater_le}
 use Rattle.farthest.proofs.Rounds.{Holds, some_same, Known}
 use Rattle.farthest.proofs.Walks.{joins_back, part_within, part_length, part_total, wider, on, shorten, walk_of, way_of}
 use Rattle.farthest.proofs.Columns.{Facts, length_open, part_bulk, found_walk, found_least, found_below, found_cheapest, found_none}

@@ -6,9 +6,9 @@ use Rattle.std.proofs.lemmas.Bool.{cases_lt, cases_eq, both_ways}
 use Rattle.network.specs.Costs.{Kind, Laws}
 use Rattle.network.specs.declared.run.Run.{Run}
 use Rattle.network.specs.Layouts.{Layout}
-use Rattle.farthest.specs.Trials.{open_runs, Arc, arc, run_arcs, round_arcs, improves, tried, rounds, with_outlets, table}
+use Rattle.farthest.specs.Trials.{open_runs, Arc, arc, run_arcs, round_arcs, improves, tried, with_outlets, table}
 use Rattle.farthest.proofs.Graph.{Spans, Joins, here, there, Way, Within, Part, total, Walk, stand, step, Cheapest}
-use Rattle.estimate.proofs.Order.{le_eq, le_trans, le_plus}
+use Rattle.network.proofs.Order.{le_eq, le_trans, le_plus}
 use Rattle.farthest.proofs.Rounds.{Among, this, next, Holds, none_some, some_same, Known, Small, Fit, Path, done, over, known_more, tried_from, tried_keeps, rounds_known, rounds_sound}
 use Rattle.farthest.proofs.Walks.{joins_nil, joins_back, Taken, take_out, without_to, without_total, part_split, part_again, nothing_of, part_within, part_length, part_total, wider, shorten, walk_of, way_of}
 

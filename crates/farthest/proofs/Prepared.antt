@@ -1,14 +1,13 @@
 -- What a view brings to the bound, and how the estimator's memory holds it. Assumes nothing.
-use Rattle.std.proofs.Common.{◌≡◌, ℕ, zero, suc, ◌+◌, ◌-◌, ◌*◌, ◌^◌, ◌<◌, ◌≤◌, min, Bool, true, false, cond, ltb, List, [], ◌∷◌, length, get_or, take, set, replicate, Some, None, Option, unwrap_or, sym, refl, ap, ◌∙◌, subst, inl, inr, arith}
-use Rattle.std.proofs.lemmas.List.{get_or-take, length-take-le}
+use Rattle.std.proofs.Common.{◌≡◌, ℕ, zero, suc, ◌+◌, ◌-◌, ◌*◌, ◌^◌, ◌<◌, ◌≤◌, min, Bool, true, false, cond, ltb, List, [], ◌∷◌, length, get_or, take, None, Option, unwrap_or, sym, refl, ap, ◌∙◌, subst, inl, inr, arith}
+use Rattle.std.proofs.lemmas.List.{get_or-take}
 use Rattle.std.proofs.lemmas.Bool.{ltb-true, le-ltb, cond-false}
 use Rattle.network.specs.Bounds.{Lawful}
-use Rattle.network.specs.Costs.{Kind, Laws}
+use Rattle.network.specs.Costs.{Kind, Laws, greater}
 use Rattle.network.specs.Layouts.{Layout, Priced}
 use Rattle.network.specs.declared.run.Run.{Run}
 use Rattle.estimate.specs.Estimates.{Prepared}
-use Rattle.estimate.specs.Greater.{greater}
-use Rattle.farthest.specs.Trials.{open_runs, rounds, round_arcs, with_outlets, table}
+use Rattle.farthest.specs.Trials.{open_runs, table}
 use Rattle.farthest.specs.Distances.{Distances, in_set, farthest, far_bound, Far}
 use Rattle.farthest.specs.Memories.{in_row}
 use Rattle.farthest.proofs.Graph.{Spans, Joins, here, there}
@@ -48,21 +47,6 @@ module _ {K : Type 0} {kind : Kind K} (laws : Laws kind) where
   same_either true = refl
   same_either false = refl
 
-  outlets_same : (ps qs : List ℕ) (ds : List (Option K)) (m : ℕ) → ((j : ℕ) → j < m → get_or ps j 0 ≡ get_or qs j 0) → with_outlets kind m ps ds ≡ with_outlets kind m qs ds
-  outlets_same ps qs ds zero f = refl
-  outlets_same ps qs ds (suc m) f =
-      let ih = outlets_same ps qs ds m (λ j l. f j (omega arith)) in
-      let e = f m (omega arith) in
-      λ i. set (ih i) (e i * 12 + m) (Some kind.zero)
-
-  -- the table over the outlets in their row, and over the list of them
-  table_same : (n : ℕ) (rs : List (Run K)) (os : List Bool) (k : ℕ) (ps : List ℕ) → k ≤ length ps
-      → table kind n rs os k ps ≡ table kind n rs os (length (take k ps)) (take k ps)
-  table_same n rs os k ps l =
-      let long = length-take-le k ps l in
-      ap (rounds kind (length rs) (round_arcs k (open_runs rs os))) (outlets_same ps (take k ps) (replicate (n * 12) None) k (λ j m. sym (get_or-take k ps j 0 m)))
-      ∙ ap (λ i. table kind n rs os i (take k ps)) (sym long)
-
   pub far_same : (ds es : Distances K) (v I m : ℕ) → ((j : ℕ) → j < m → ds v j ≡ es v j) → farthest kind ds v I m ≡ farthest kind es v I m
   far_same ds es v I zero f = refl
   far_same ds es v I (suc m) f =
@@ -81,24 +65,21 @@ module _ {K : Type 0} {kind : Kind K} (laws : Laws kind) where
           let l = ltb-true v n e in
           ap (λ x. cond (ltb I (2 ^ (k - 1))) x kind.zero) (far_same (in_row row) (in_row (take (n * 12) row)) v I k (λ j m. sym (get_or-take (n * 12) row (v * 12 + j) None (omega arith))))
 
-  module _ (l : Layout K) (k : ℕ) (ps : List ℕ) (row : List (Option K)) (few : k ≤ 12) (room : k ≤ length ps) (is : l.outlets ≡ take k ps)
-      (made : take (l.junctions * 12) row ≡ table kind l.junctions l.runs l.«open» k ps) where
+  module _ (l : Layout K) (row : List (Option K)) (few : length l.outlets ≤ 12)
+      (made : take (l.junctions * 12) row ≡ table kind l.junctions l.runs l.«open» (length l.outlets) l.outlets) where
     -- what the rounds leave
     abbrev left : Distances K
     left = in_row (table kind l.junctions l.runs l.«open» (length l.outlets) l.outlets)
 
     -- the bound that the row holds
     abbrev held : ℕ → ℕ → K
-    held v I = far_bound kind l.junctions (min k 12) (in_row row) v I
+    held v I = far_bound kind l.junctions (min (length l.outlets) 12) (in_row row) v I
 
-    long : min k 12 ≡ length l.outlets
-    long = let e : min k 12 ≡ k = omega arith in e ∙ sym (ap length is ∙ length-take-le k ps room)
+    long : min (length l.outlets) 12 ≡ length l.outlets
+    long = omega arith
 
     held_is : (v I : ℕ) → held v I ≡ far_bound kind l.junctions (length l.outlets) left v I
-    held_is v I =
-        let e : take (l.junctions * 12) row ≡ table kind l.junctions l.runs l.«open» (length l.outlets) l.outlets =
-        made ∙ (table_same l.junctions l.runs l.«open» k ps room ∙ ap (λ os. table kind l.junctions l.runs l.«open» (length os) os) (sym is)) in
-        bound_same l.junctions (min k 12) row v I (omega arith) ∙ (λ i. far_bound kind l.junctions (long i) (in_row (e i)) v I)
+    held_is v I = bound_same l.junctions (min (length l.outlets) 12) row v I (omega arith) ∙ (λ i. far_bound kind l.junctions (long i) (in_row (made i)) v I)
 
     pub prepared_far : (Priced kind l.runs → Facts kind l) → Far kind l held
     prepared_far facts = record { distances = left; measured = λ p. found_measured laws l (facts p); is = held_is }
@@ -107,7 +88,7 @@ module _ {K : Type 0} {kind : Kind K} (laws : Laws kind) where
     prepared facts = record {
       lawful = λ p. subst (Lawful kind l) (λ i v I. sym (held_is v I) i) (found_lawful laws l (facts p));
       no_junction = λ v I h. cond-false (ltb v l.junctions) _ _ (le-ltb v l.junctions h);
-      no_set = λ v I h. let e : 2 ^ (min k 12 - 1) ≤ I = subst (λ m. 2 ^ (m - 1) ≤ I) (sym long) h in
-          ap (λ x. cond (ltb v l.junctions) x kind.zero) (cond-false (ltb I (2 ^ (min k 12 - 1))) _ _ (le-ltb I (2 ^ (min k 12 - 1)) e)) ∙ same_either (ltb v l.junctions);
+      no_set = λ v I h. let e : 2 ^ (min (length l.outlets) 12 - 1) ≤ I = subst (λ m. 2 ^ (m - 1) ≤ I) (sym long) h in
+          ap (λ x. cond (ltb v l.junctions) x kind.zero) (cond-false (ltb I (2 ^ (min (length l.outlets) 12 - 1))) _ _ (le-ltb I (2 ^ (min (length l.outlets) 12 - 1)) e)) ∙ same_either (ltb v l.junctions);
       no_outlet = λ v I h. held_is v I ∙ (ap (λ m. far_bound kind l.junctions m left v I) h ∙ (ap (λ x. cond (ltb v l.junctions) x kind.zero) (same_either (ltb I 1)) ∙ same_either (ltb v l.junctions)));
     }

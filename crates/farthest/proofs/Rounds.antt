@@ -4,7 +4,7 @@ use Rattle.std.proofs.lemmas.List.{length-set, get_or_past, get_or-set_same, get
 use Rattle.std.proofs.lemmas.Bool.{cases_lt, cases_eq, le-leb}
 use Rattle.network.specs.Costs.{Kind, Laws}
 use Rattle.farthest.specs.Trials.{Arc, sum_of, improves, offered, tried, applied, rounds}
-use Rattle.estimate.proofs.Order.{le_trans, mono_l, weaken}
+use Rattle.network.proofs.Order.{le_trans, mono_l, weaken}
 
 pub data Among {K : Type 0} (a : Arc K) : List (Arc K) → Type 0 where
   this : {xs : List (Arc K)} → Among a (a ∷ xs)

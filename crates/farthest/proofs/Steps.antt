@@ -1,12 +1,10 @@
 -- The steps of the loops that find distances. Assumes nothing.
-use Rattle.std.proofs.Common.{◌≡◌, ℕ, zero, suc, ◌+◌, ◌-◌, ◌*◌, ◌<◌, ◌≤◌, Bool, true, false, cond, ◌≢◌, List, [], ◌∷◌, ◌++◌, length, get_or, drop, set, replicate, Some, None, Option, unwrap_or, sym, refl, ap, ◌∙◌, add-one, arith, below_more}
-use lib.ListN.{length-replicate, get_or-replicate}
-use Rattle.std.proofs.lemmas.List.{ext_get_or, get_or-set_same, get_or-set_other, drop_more, drop_all}
+use Rattle.std.proofs.Common.{◌≡◌, ℕ, zero, suc, ◌+◌, ◌-◌, ◌*◌, ◌<◌, ◌≤◌, Bool, true, false, cond, List, [], ◌∷◌, ◌++◌, length, get_or, drop, Option, unwrap_or, sym, refl, ap, ◌∙◌, add-one, arith}
+use Rattle.std.proofs.lemmas.List.{drop_more, drop_all}
 use Rattle.std.proofs.lemmas.Bool.{cond-true, cond-false}
-use Rattle.network.specs.Costs.{Kind}
+use Rattle.network.specs.Costs.{Kind, greater}
 use Rattle.network.specs.declared.run.Run.{Run}
-use Rattle.estimate.specs.Greater.{greater}
-use Rattle.farthest.specs.Trials.{open_runs, Arc, arc, run_arcs, round_arcs, tried, applied, rounds, with_outlets}
+use Rattle.farthest.specs.Trials.{open_runs, Arc, arc, run_arcs, round_arcs, tried, applied, rounds}
 use Rattle.farthest.specs.Distances.{Distances, in_set, farthest}
 
 module _ {K : Type 0} (kind : Kind K) where
@@ -58,20 +56,6 @@ module _ {K : Type 0} (kind : Kind K) where
       let still = rounds_still xs ds₀ r (n - r) (ap (applied kind xs) (sym e) ∙ (sym f ∙ (g ∙ e))) in
       g ∙ (e ∙ (sym still ∙ ap (λ i. rounds kind i xs ds₀) q))
 
-  pub rounds_more : (xs : List (Arc K)) (ds₀ ds ds₁ : List (Option K)) (r : ℕ) → ds ≡ rounds kind r xs ds₀ → ds₁ ≡ applied kind xs ds → ds₁ ≡ rounds kind (r + 1) xs ds₀
-  rounds_more xs ds₀ ds ds₁ r e f = rw add-one (f ∙ ap (applied kind xs) e)
-
-pub outlets_more : {K : Type 0} (kind : Kind K) (x : K) (j : ℕ) (ps : List ℕ) (ds₀ ds : List (Option K)) → ds ≡ with_outlets kind j ps ds₀ → x ≡ kind.zero → set ds (get_or ps j 0 * 12 + j) (Some x) ≡ with_outlets kind (j + 1) ps ds₀
-outlets_more kind x j ps ds₀ ds e f = rw add-one (ap (λ y. set y (get_or ps j 0 * 12 + j) (Some x)) e ∙ ap (λ y. set (with_outlets kind j ps ds₀) (get_or ps j 0 * 12 + j) (Some y)) f)
-
-pub clear_more : {K : Type 0} (ds : List (Option K)) (i : ℕ) → i < length ds → ((k : ℕ) → k < i → get_or ds k None ≡ None) → (k : ℕ) → k < i + 1 → get_or (set ds i None) k None ≡ None
-clear_more ds i l f =
-    below_more (λ k. get_or (set ds i None) k None ≡ None) i (λ k m. let ne : k ≢ i = omega arith in get_or-set_other ds i k None None ne ∙ f k m) (get_or-set_same ds i None None l)
-
-pub clear_all : {K : Type 0} (ds : List (Option K)) (n : ℕ) → length ds ≡ n → ((k : ℕ) → k < n → get_or ds k None ≡ None) → ds ≡ replicate n None
-clear_all ds n e f =
-    ext_get_or None ds (replicate n None) (e ∙ sym (length-replicate n None)) (λ k m. let l : k < n = omega arith in f k l ∙ sym (get_or-replicate n k None None l))
-
 -- one outlet more of the farthest
 module _ {K : Type 0} (kind : Kind K) (ds : Distances K) (v I j : ℕ) (best new : K) (e : best ≡ farthest kind ds v I j) where
   pub far_skip : in_set I j ≡ true → new ≡ best → new ≡ farthest kind ds v I (j + 1)
@@ -79,10 +63,3 @@ module _ {K : Type 0} (kind : Kind K) (ds : Distances K) (v I j : ℕ) (best new
 
   pub far_more : in_set I j ≡ false → new ≡ greater kind best (unwrap_or (ds v j) kind.zero) → new ≡ farthest kind ds v I (j + 1)
   far_more h f = rw add-one (f ∙ (ap (λ x. greater kind x (unwrap_or (ds v j) kind.zero)) e ∙ sym (cond-false (in_set I j) _ _ h)))
-
--- cleared, the outlets set, and then the rounds
-pub measure_all : {K : Type 0} (kind : Kind K) (r : ℕ) (xs : List (Arc K)) (k : ℕ) (ps : List ℕ) (m n : ℕ) (d₁ d₂ d₃ : List (Option K))
-    → d₁ ≡ replicate m None → m ≡ n → d₂ ≡ with_outlets kind k ps d₁ → d₃ ≡ rounds kind r xs d₂
-    → d₃ ≡ rounds kind r xs (with_outlets kind k ps (replicate n None))
-measure_all kind r xs k ps m n d₁ d₂ d₃ e l f h =
-    h ∙ ap (rounds kind r xs) (f ∙ ap (with_outlets kind k ps) (e ∙ ap (λ i. replicate i None) l))

@@ -1,9 +1,9 @@
 -- Walks along runs: from each a set of runs is left that joins the same ends and costs no more. Assumes nothing.
-use Rattle.std.proofs.Common.{◌≡◌, ℕ, zero, suc, ◌+◌, ◌≤◌, Bool, false, ◌⊎◌, List, [], ◌∷◌, length, sym, refl, ap, ◌∙◌, subst, inl, inr, arith}
+use Rattle.std.proofs.Common.{◌≡◌, ℕ, zero, suc, ◌+◌, ◌≤◌, false, ◌⊎◌, List, [], ◌∷◌, length, sym, refl, ap, ◌∙◌, subst, inl, inr, arith}
 use Rattle.network.specs.Costs.{Kind, Laws}
 use Rattle.network.specs.declared.run.Run.{Run}
 use Rattle.farthest.proofs.Graph.{Spans, Joins, here, there, Way, stay, go, Within, Part, none, leave, keep, total, Walk, stand, step}
-use Rattle.estimate.proofs.Order.{le_eq, le_trans, mono_l, mono_r, left_comm, le_plus, le_plus_l, unit_r}
+use Rattle.network.proofs.Order.{le_eq, le_trans, mono_l, mono_r, left_comm, le_plus, le_plus_l, unit_r}
 
 -- S is E without one run e
 pub data Without {C : Type 0} (e : Run C) : List (Run C) → List (Run C) → Type 0 where

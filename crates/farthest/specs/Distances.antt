@@ -1,8 +1,7 @@
 -- Distances of junctions to outlets, and the bound that is made of them. Assumes nothing.
 use Rattle.std.specs.Prelude.{◌≡◌, ℕ, zero, suc, ◌-◌, ◌/◌, ◌%◌, ◌^◌, ◌<◌, Bool, false, cond, List, length, Some, None, Option, ◌==◌, nat_lt, slice_index}
 use Rattle.std.specs.Option.{unwrap_or}
-use Rattle.estimate.specs.Greater.{greater}
-use Rattle.network.specs.Costs.{Kind}
+use Rattle.network.specs.Costs.{greater, Kind}
 use Rattle.network.specs.Layouts.{Layout, OpenSet, Path, Distance, Priced}
 
 -- what is known of the distance of each junction to the j-th outlet: the root is the 0th, and the outlet at the place i is the (i + 1)th

@@ -45,13 +45,14 @@ abbrev pub lines_past : Option (List ℕ) → List (List ℕ)
 lines_past None = []
 lines_past (Some rest) = lines rest
 
-pub lined : (x : ℕ) (xs : List ℕ) → lines (x ∷ xs) ≡ before 10 (x ∷ xs) ∷ lines_past (past 10 (x ∷ xs))
-lined x [] =
+pub first_line : (text : List ℕ) → 0 < length text → lines text ≡ before 10 text ∷ lines_past (past 10 text)
+first_line [] l = absurd (omega arith)
+first_line (x ∷ []) l =
     elim (nat_eq x 10) as (λ t. cond t ([] ∷ []) (onto x []) ≡ cond t [] (x ∷ []) ∷ lines_past (cond t (Some []) None))
     [ true ↦ refl | false ↦ refl ]
-lined x (y ∷ ys) =
+first_line (x ∷ y ∷ ys) l =
     elim (nat_eq x 10) as (λ t. cond t ([] ∷ lines (y ∷ ys)) (onto x (lines (y ∷ ys))) ≡ cond t [] (x ∷ before 10 (y ∷ ys)) ∷ lines_past (cond t (Some (y ∷ ys)) (past 10 (y ∷ ys))))
-    [ true ↦ refl | false ↦ ap (onto x) (lined y ys) ]
+    [ true ↦ refl | false ↦ ap (onto x) (first_line (y ∷ ys) (omega arith)) ]
 
 -- blanks at the front give no word
 abbrev pub first_word : List ℕ → ℕ

@@ -7,6 +7,7 @@ ghost use Rattle.lines.specs.Left.{lines_left};
 use crate::bytes::split_once;
 
 // The first line of a text, and what stands after it.
+#[tactic(auto, using(crate::proofs::Splitting::first_line))]
 pub fn next_line(text: &[u8]) -> Option<(&[u8], &[u8])>
     ensures { MatchOption result
         (lines text.now ≡ [])

@@ -1,5 +1,5 @@
 // What each line of a district got, on standard output.
-use crate::fault::Fault;
+use console::{Fault, Marked};
 use network::{Cost, Refusal};
 use replay::{Answer, Call, Turn};
 use requests::Figured;
@@ -8,7 +8,7 @@ use sheets::{Entry, Sheet, Trial, find_trial};
 use std::fmt;
 
 // How many districts were made, and what was said of the trenches dug.
-#[derive(Clone, Copy)]
+#[derive(Clone, Copy, Default)]
 pub struct Tally {
     pub districts: u64,
     pub agree: u64,
@@ -18,58 +18,59 @@ pub struct Tally {
     pub skipped: bool,
 }
 
-// The runs that a row marks.
-#[derive(Drop)]
-struct Marked<'r> {
-    row: &'r [u8],
+// A call that was taken and answers with nothing else.
+#[derive(Clone, Copy)]
+struct Done<K> {
+    call: Call<K>,
 }
 
-impl fmt::Display for Marked<'_> {
+impl<K: Cost> fmt::Display for Done<K> {
     fn fmt<W: fmt::Write>(&self, f: &mut fmt::Formatter<W>) -> fmt::Result {
-        let mut some = false;
-        for (number, mark) in self.row.iter().enumerate() {
-            if *mark == 1 {
-                write!(f, " {number}")?;
-                some = true;
+        match self.call {
+            Call::Reprice { run, .. } => write!(f, "repriced {run}"),
+            Call::Close { run } => write!(f, "closed {run}"),
+            Call::Open { run } => write!(f, "opened {run}"),
+            Call::Mark { junction } => write!(f, "marked {junction}"),
+            Call::Unmark { junction } => write!(f, "unmarked {junction}"),
+            Call::Lay { .. } | Call::Plan(_) => write!(f, "done"),
+        }
+    }
+}
+
+// What a call got.
+#[derive(Drop)]
+struct Got<'t, K> {
+    turn: &'t Turn<K>,
+}
+
+impl<K: Cost + Figured> fmt::Display for Got<'_, K> {
+    fn fmt<W: fmt::Write>(&self, f: &mut fmt::Formatter<W>) -> fmt::Result {
+        match &self.turn.answer {
+            Answer::Untried => write!(f, "not tried"),
+            Answer::Laid(run) => write!(f, "run {run}"),
+            Answer::Done => {
+                let done = Done {
+                    call: self.turn.call,
+                };
+                write!(f, "{done}")
+            }
+            Answer::Refused(why) => write!(f, "refused {}", why.number()),
+            Answer::Planned(plan) => {
+                let runs = Marked {
+                    row: &self.turn.row,
+                };
+                let cost = plan.cost.to_figure();
+                let count = plan.count;
+                write!(f, "cost {cost}, runs{runs}, count {count}")
+            }
+            Answer::NotPlanned(NoPlan::Refused(why)) => write!(f, "refused {}", why.number()),
+            Answer::NotPlanned(NoPlan::Unjoined(count)) => write!(f, "refused 18, count {count}"),
+            Answer::NotPlanned(NoPlan::Stopped(count, floor)) => {
+                let floor = floor.to_figure();
+                write!(f, "refused 19, count {count}, floor {floor}")
             }
         }
-        if some { Ok(()) } else { write!(f, " none") }
     }
-}
-
-// A call that was taken and answers with nothing else.
-fn say_done<K: Cost>(rt: &HostRuntime, call: Call<K>) -> Result<(), Fault> {
-    match call {
-        Call::Reprice { run, cost: _ } => println!(rt; "repriced {run}")?,
-        Call::Close { run } => println!(rt; "closed {run}")?,
-        Call::Open { run } => println!(rt; "opened {run}")?,
-        Call::Mark { junction } => println!(rt; "marked {junction}")?,
-        Call::Unmark { junction } => println!(rt; "unmarked {junction}")?,
-        _ => println!(rt; "done")?,
-    }
-    Ok(())
-}
-
-fn say_turn<K: Cost + Figured>(rt: &HostRuntime, turn: &Turn<K>) -> Result<(), Fault> {
-    match &turn.answer {
-        Answer::Untried => println!(rt; "not tried")?,
-        Answer::Laid(run) => println!(rt; "run {run}")?,
-        Answer::Done => say_done(rt, turn.call)?,
-        Answer::Refused(why) => println!(rt; "refused {}", why.number())?,
-        Answer::Planned(plan) => {
-            let runs = Marked { row: &turn.row };
-            let cost = plan.cost.to_figure();
-            let count = plan.count;
-            println!(rt; "cost {cost}, runs{runs}, count {count}")?
-        }
-        Answer::NotPlanned(NoPlan::Refused(why)) => println!(rt; "refused {}", why.number())?,
-        Answer::NotPlanned(NoPlan::Unjoined(count)) => println!(rt; "refused 18, count {count}")?,
-        Answer::NotPlanned(NoPlan::Stopped(count, floor)) => {
-            let floor = floor.to_figure();
-            println!(rt; "refused 19, count {count}, floor {floor}")?
-        }
-    }
-    Ok(())
 }
 
 // The cost of the last plan after a turn: a plan that was refused leaves none.
@@ -82,27 +83,45 @@ fn planned_after<K: Cost>(turn: &Turn<K>, before: Option<K>) -> Option<K> {
 }
 
 // What was paid for a trench, beside what was planned.
-fn say_dug<K: Cost + Figured>(
-    rt: &HostRuntime,
-    paid: K,
-    planned: Option<K>,
-    tally: &mut Tally,
-) -> Result<(), Fault> {
-    let dug = paid.to_figure();
-    let Some(cost) = planned else {
-        println!(rt; "dug {dug}: not planned")?;
-        tally.not_planned = tally.not_planned.saturating_add(1);
-        return Ok(());
-    };
-    if cost.is_below(paid) || paid.is_below(cost) {
-        let cost = cost.to_figure();
-        println!(rt; "dug {dug}: differs, planned {cost}")?;
-        tally.differ = tally.differ.saturating_add(1);
-    } else {
-        println!(rt; "dug {dug}: agrees")?;
-        tally.agree = tally.agree.saturating_add(1);
+#[derive(Clone, Copy)]
+enum Compared<K> {
+    Agrees,
+    Differs { planned: K },
+    NotPlanned,
+}
+
+impl<K: Cost + Figured> fmt::Display for Compared<K> {
+    fn fmt<W: fmt::Write>(&self, f: &mut fmt::Formatter<W>) -> fmt::Result {
+        match self {
+            Compared::Agrees => write!(f, "agrees"),
+            Compared::Differs { planned } => {
+                let planned = planned.to_figure();
+                write!(f, "differs, planned {planned}")
+            }
+            Compared::NotPlanned => write!(f, "not planned"),
+        }
     }
-    Ok(())
+}
+
+fn compare<K: Cost>(paid: K, planned: Option<K>) -> Compared<K> {
+    match planned {
+        None => Compared::NotPlanned,
+        Some(planned) if planned.is_below(paid) || paid.is_below(planned) => {
+            Compared::Differs { planned }
+        }
+        Some(_) => Compared::Agrees,
+    }
+}
+
+impl Tally {
+    fn count<K>(&mut self, compared: &Compared<K>) {
+        let counted = match compared {
+            Compared::Agrees => &mut self.agree,
+            Compared::Differs { .. } => &mut self.differ,
+            Compared::NotPlanned => &mut self.not_planned,
+        };
+        *counted = counted.saturating_add(1);
+    }
 }
 
 // A call or a comparison where there is no district.
@@ -129,8 +148,9 @@ fn say_unmade<K: Cost>(
     for entry in sheet.entries.iter() {
         match *entry {
             Entry::NotUnderstood { line } => say_not_understood(rt, line, tally)?,
-            Entry::Asked { line, at: _ } => say_no_district(rt, line, tally)?,
-            Entry::Dug { line, cost: _ } => say_no_district(rt, line, tally)?,
+            Entry::Asked { line, .. } | Entry::Dug { line, .. } => {
+                say_no_district(rt, line, tally)?
+            }
         }
     }
     Ok(())
@@ -144,7 +164,7 @@ fn turn_at<'t, K: Cost>(
 ) -> Option<&'t Turn<K>> {
     let request = sheet.requests.get(at)?;
     let trial = find_trial(trials, request.tools)?;
-    trial.turns.get(at)
+    trial.turns.as_ref().ok()?.get(at)
 }
 
 // The lines of a district that was made.
@@ -162,10 +182,14 @@ fn say_made<K: Cost + Figured>(
     for entry in sheet.entries.iter() {
         match *entry {
             Entry::NotUnderstood { line } => say_not_understood(rt, line, tally)?,
-            Entry::Dug { line: _, cost } => say_dug(rt, cost, planned, tally)?,
-            Entry::Asked { line: _, at } => {
+            Entry::Dug { cost, .. } => {
+                let compared = compare(cost, planned);
+                println!(rt; "dug {}: {compared}", cost.to_figure())?;
+                tally.count(&compared);
+            }
+            Entry::Asked { at, .. } => {
                 if let Some(turn) = turn_at(sheet, trials, at) {
-                    say_turn(rt, turn)?;
+                    println!(rt; "{}", Got { turn })?;
                     planned = planned_after(turn, planned);
                 }
             }
@@ -181,10 +205,8 @@ pub fn say_sheet<K: Cost + Figured>(
     trials: &[Trial<K>],
     tally: &mut Tally,
 ) -> Result<(), Fault> {
-    if let Some(trial) = trials.first() {
-        if let Some(why) = trial.refused {
-            return say_unmade(rt, why, sheet, tally);
-        }
+    match trials.first().map(|trial| &trial.turns) {
+        Some(Err(why)) => say_unmade(rt, *why, sheet, tally),
+        _ => say_made(rt, sheet, trials, tally),
     }
-    say_made(rt, sheet, trials, tally)
 }

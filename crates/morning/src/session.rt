@@ -3,9 +3,9 @@ ghost use Rattle.std.specs.Prelude.{OnOk};
 ghost use Rattle.commands.specs.Commands.{understood};
 ghost use Rattle.sheets.specs.Pages.{Read};
 
-use crate::fault::Fault;
 use crate::say::{Tally, say_no_district, say_not_understood, say_sheet};
 use commands::{Command, next_line, read_line};
+use console::Fault;
 use network::Cost;
 use requests::Figured;
 use sheets::{Page, Sheet, try_sheet};
@@ -63,13 +63,7 @@ fn take_line(
 }
 
 pub fn answer_all(rt: &HostRuntime, text: &[u8]) -> Result<(), Fault> {
-    let mut tally = Tally {
-        districts: 0,
-        agree: 0,
-        differ: 0,
-        not_planned: 0,
-        skipped: false,
-    };
+    let mut tally = Tally::default();
     let mut page: Option<Page> = None;
     let mut number: u64 = 0;
     let mut rest = text;

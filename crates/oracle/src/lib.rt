@@ -4,8 +4,10 @@
 
 pub mod costs;
 pub mod kind;
+pub mod members;
 pub mod record;
 pub mod said;
 pub mod subsets;
 pub mod survey;
+pub mod table;
 pub mod walk;

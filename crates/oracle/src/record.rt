@@ -1,8 +1,42 @@
-// A record of a district: what the rules say of each call, with nothing of the library. Each call answers with the number
-// of the question that it fails, or 0, and then it is noted.
+// A record of a district: what the rules say of each call, with nothing of the library. Each call answers with the
+// question that it fails, or it is noted.
+ghost use Rattle.std.specs.Prelude.{◌≡◌, cond, Ok, Err};
+
 use crate::costs::{bit, has};
 use crate::kind::Kind;
 use std::alloc::{AllocError, Global};
+
+// The questions that can be failed, by their numbers.
+#[derive(Clone, Copy, PartialEq, Eq)]
+pub enum Fails {
+    JunctionCount = 1,
+    RunCapacity,
+    NotAJunction,
+    SameEnds,
+    NoCost,
+    TooBulky,
+    RunsFull,
+    NoRun,
+    RunState,
+    AlreadyMarked,
+    OutletsFull,
+    NotMarked,
+    NoOutlet,
+    LabelMemory,
+    QueueCapacity,
+    EstimatorFit,
+    AnswerRow,
+    NoLabelWaits,
+    LimitReached,
+    CodeBeyond,
+}
+
+// A question: where the answer is not yes, it is failed.
+pub fn ask(yes: bool, question: Fails) -> Result<(), Fails>
+    ensures { result ≡ cond yes (Ok tt) (Err question) }
+{
+    if yes { Ok(()) } else { Err(question) }
+}
 
 #[derive(Clone, Copy)]
 pub struct Laid<K> {
@@ -10,6 +44,14 @@ pub struct Laid<K> {
     pub b: u64,
     pub cost: K,
     pub open: bool,
+}
+
+impl<K> Laid<K> {
+    pub fn ends(&self) -> (usize, usize)
+        ensures { result ≡ (self.now.a, self.now.b) }
+    {
+        (self.a as usize, self.b as usize)
+    }
 }
 
 #[derive(Drop)]
@@ -21,16 +63,11 @@ pub struct Record<K> {
     pub outlets: usize,
 }
 
-// The number of the question that a cost of a run fails, or 0.
-fn cost_fails<K: Kind>(cost: K) -> u8 {
+// What is asked of the cost of a run.
+fn ask_cost<K: Kind>(cost: K) -> Result<(), Fails> {
     let (crossings, money) = cost.parts();
-    if crossings == 0 && money == 0 {
-        5
-    } else if crossings > 1_000_000 || money > 1_000_000 {
-        6
-    } else {
-        0
-    }
+    ask(crossings > 0 || money > 0, Fails::NoCost)?;
+    ask(crossings.max(money) <= 1_000_000, Fails::TooBulky)
 }
 
 impl<K: Kind> Record<K> {
@@ -43,88 +80,61 @@ impl<K: Kind> Record<K> {
         }
     }
 
-    // The number of the question that the making fails, or 0.
-    pub fn make_fails(&self) -> u8 {
-        if self.junctions == 0 || self.junctions > 1024 {
-            1
-        } else if self.capacity > 4096 {
-            2
-        } else {
-            0
-        }
+    // What the making asks.
+    pub fn make(&self) -> Result<(), Fails> {
+        ask((1..=1024).contains(&self.junctions), Fails::JunctionCount)?;
+        ask(self.capacity <= 4096, Fails::RunCapacity)
     }
 
-    pub fn lay(&mut self, a: u64, b: u64, cost: K) -> Result<u8, AllocError> {
-        if a >= self.junctions || b >= self.junctions {
-            return Ok(3);
-        }
-        if a == b {
-            return Ok(4);
-        }
-        let fails = cost_fails(cost);
-        if fails > 0 {
-            return Ok(fails);
-        }
-        if self.runs.len() >= self.capacity {
-            return Ok(7);
-        }
-        let open = true;
-        self.runs.push(Laid { a, b, cost, open })?;
-        Ok(0)
+    // What lay asks; the number of the run.
+    fn ask_lay(&self, a: u64, b: u64, cost: K) -> Result<usize, Fails> {
+        ask(a.max(b) < self.junctions, Fails::NotAJunction)?;
+        ask(a != b, Fails::SameEnds)?;
+        ask_cost(cost)?;
+        ask(self.runs.len() < self.capacity, Fails::RunsFull)?;
+        Ok(self.runs.len())
     }
 
-    pub fn reprice(&mut self, run: u64, cost: K) -> u8 {
-        match self.runs.get_mut(run as usize) {
-            None => 8,
-            Some(laid) => {
-                let fails = cost_fails(cost);
-                if fails == 0 {
-                    laid.cost = cost;
-                }
-                fails
-            }
+    // The number of the run laid.
+    pub fn lay(&mut self, a: u64, b: u64, cost: K) -> Result<Result<usize, Fails>, AllocError> {
+        let number = self.ask_lay(a, b, cost);
+        if number.is_ok() {
+            let open = true;
+            self.runs.push(Laid { a, b, cost, open })?;
         }
+        Ok(number)
+    }
+
+    pub fn reprice(&mut self, run: u64, cost: K) -> Result<(), Fails> {
+        let laid = self.runs.get_mut(run as usize).ok_or(Fails::NoRun)?;
+        ask_cost(cost)?;
+        laid.cost = cost;
+        Ok(())
     }
 
     // Opens or closes a run.
-    pub fn turn(&mut self, run: u64, open: bool) -> u8 {
-        match self.runs.get_mut(run as usize) {
-            None => 8,
-            Some(laid) => {
-                if laid.open == open {
-                    return 9;
-                }
-                laid.open = open;
-                0
-            }
-        }
+    pub fn turn(&mut self, run: u64, open: bool) -> Result<(), Fails> {
+        let laid = self.runs.get_mut(run as usize).ok_or(Fails::NoRun)?;
+        ask(laid.open != open, Fails::RunState)?;
+        laid.open = open;
+        Ok(())
     }
 
-    pub fn mark(&mut self, junction: u64) -> u8 {
-        if junction >= self.junctions {
-            return 3;
-        }
+    pub fn mark(&mut self, junction: u64) -> Result<(), Fails> {
+        ask(junction < self.junctions, Fails::NotAJunction)?;
         let outlet = bit(junction as usize);
-        if has(self.outlets, outlet) {
-            return 10;
-        }
-        if self.outlets.count_ones() >= 12 {
-            return 11;
-        }
-        self.outlets = self.outlets | outlet;
-        0
+        ask(!has(self.outlets, outlet), Fails::AlreadyMarked)?;
+        ask(self.outlets.count_ones() < 12, Fails::OutletsFull)?;
+        self.outlets |= outlet;
+        Ok(())
     }
 
-    pub fn unmark(&mut self, junction: u64) -> u8 {
-        if junction >= self.junctions {
-            return 3;
-        }
+    pub fn unmark(&mut self, junction: u64) -> Result<(), Fails> {
+        ask(junction < self.junctions, Fails::NotAJunction)?;
         let outlet = bit(junction as usize);
-        if !has(self.outlets, outlet) {
-            return 12;
-        }
-        self.outlets = self.outlets ^ outlet;
-        0
+        ask(has(self.outlets, outlet), Fails::NotMarked)?;
+        self.outlets ^= outlet;
+        Ok(())
     }
 
     // How many sets the outlets but one have; 0 where there is no outlet.

@@ -1,9 +1,9 @@
 // Distances, and the recurrence of Dreyfus and Wagner over them.
-ghost use Rattle.std.specs.Prelude.{◌≡◌, ◌+◌, ◌*◌, ◌^◌, ◌<◌};
-
-use crate::costs::{added, at, bit, lesser, lower, row_of};
+use crate::costs::{added, bit, has, holds, lesser};
 use crate::kind::Kind;
+use crate::members::members;
 use crate::record::{Laid, Record};
+use crate::table::{Table, cell};
 use network::Cost;
 use std::alloc::{AllocError, Global};
 
@@ -14,57 +14,27 @@ pub struct Survey<K> {
     // By rising number; the first is the root.
     pub outlets: Vec<usize>,
     pub sets: usize,
-    // The distance of v and w at v × junctions + w.
-    pub distances: Vec<Option<K>>,
-}
-
-// Where `column` stands in a row of rows, each of `width`.
-pub fn cell(row: usize, width: usize, column: usize) -> usize
-    ensures { row * width + column < 2 ^ 64 → result ≡ row * width + column }
-{
-    row.saturating_mul(width).saturating_add(column)
-}
-
-// The marked junctions, by rising number.
-fn outlets_of(heap: Global, marked: usize) -> Result<Vec<usize>, AllocError> {
-    let mut outlets = Vec::new(heap);
-    for j in 0..16 {
-        if marked & bit(j) != 0 {
-            outlets.push(j)?;
-        }
-    }
-    Ok(outlets)
+    pub distances: Table<K>,
 }
 
 // Each junction at zero from itself, and the ends of an open run at its cost.
-fn lay_distances<K: Cost>(distances: &mut [Option<K>], junctions: usize, runs: &[Laid<K>]) {
-    for v in 0..junctions {
-        lower(distances, cell(v, junctions, v), Some(K::zero()));
+fn lay_distances<K: Cost>(distances: &mut Table<K>, runs: &[Laid<K>]) {
+    for v in 0..distances.width {
+        distances.lower(v, v, Some(K::zero()));
     }
-    for run in runs {
-        if run.open {
-            let cost = Some(run.cost);
-            lower(
-                distances,
-                cell(run.a as usize, junctions, run.b as usize),
-                cost,
-            );
-            lower(
-                distances,
-                cell(run.b as usize, junctions, run.a as usize),
-                cost,
-            );
-        }
+    for run in runs.iter().filter(|run| run.open) {
+        let (a, b) = run.ends();
+        distances.lower(a, b, Some(run.cost));
+        distances.lower(b, a, Some(run.cost));
     }
 }
 
 // Shortens every distance by way of `by`.
-fn shorten<K: Cost>(distances: &mut [Option<K>], junctions: usize, by: usize) {
-    for v in 0..junctions {
-        for w in 0..junctions {
-            let first = at(distances, cell(v, junctions, by));
-            let second = at(distances, cell(by, junctions, w));
-            lower(distances, cell(v, junctions, w), added(first, second));
+fn shorten<K: Cost>(distances: &mut Table<K>, by: usize) {
+    for v in 0..distances.width {
+        for w in 0..distances.width {
+            let over = added(distances.at(v, by), distances.at(by, w));
+            distances.lower(v, w, over);
         }
     }
 }
@@ -74,11 +44,11 @@ fn distances_of<K: Cost>(
     heap: Global,
     junctions: usize,
     runs: &[Laid<K>],
-) -> Result<Vec<Option<K>>, AllocError> {
-    let mut distances = row_of(heap, None, junctions.saturating_mul(junctions))?;
-    lay_distances(&mut distances, junctions, runs);
+) -> Result<Table<K>, AllocError> {
+    let mut distances = Table::filled(heap, junctions, junctions, None)?;
+    lay_distances(&mut distances, runs);
     for by in 0..junctions {
-        shorten(&mut distances, junctions, by);
+        shorten(&mut distances, by);
     }
     Ok(distances)
 }
@@ -87,7 +57,7 @@ pub fn surveyed<K: Kind>(heap: Global, record: &Record<K>) -> Result<Survey<K>, 
     let junctions = record.junctions as usize;
     Ok(Survey {
         junctions,
-        outlets: outlets_of(heap, record.outlets)?,
+        outlets: members(record.outlets).collect(heap)?,
         sets: record.sets(),
         distances: distances_of(heap, junctions, &record.runs)?,
     })
@@ -95,7 +65,22 @@ pub fn surveyed<K: Kind>(heap: Global, record: &Record<K>) -> Result<Survey<K>, 
 
 impl<K: Cost> Survey<K> {
     pub fn distance(&self, v: usize, w: usize) -> Option<K> {
-        at(&self.distances, cell(v, self.junctions, w))
+        self.distances.at(v, w)
+    }
+
+    // The first outlet, or junction 0 where there is none.
+    pub fn root(&self) -> usize {
+        self.outlets.first().copied().unwrap_or(0)
+    }
+
+    // The set of all outlets but the root.
+    pub fn all(&self) -> usize {
+        self.sets.saturating_sub(1)
+    }
+
+    // The code of a label.
+    pub fn code(&self, v: usize, set: usize) -> usize {
+        cell(v, self.sets, set)
     }
 
     // The outlet at `place`: the root is at none.
@@ -105,67 +90,46 @@ impl<K: Cost> Survey<K> {
 
     // The largest distance from v to an outlet that `set` lacks and that can be reached, or zero.
     pub fn farthest(&self, v: usize, set: usize) -> K {
-        let mut most = K::zero();
-        for (i, outlet) in self.outlets.iter().enumerate() {
-            if i == 0 || set & bit(i - 1) == 0 {
-                if let Some(far) = self.distance(v, *outlet) {
-                    if most.is_below(far) {
-                        most = far;
-                    }
-                }
-            }
-        }
-        most
+        self.outlets
+            .iter()
+            .enumerate()
+            .filter(|(i, _)| *i == 0 || !holds(set, *i - 1))
+            .filter_map(|(_, outlet)| self.distance(v, *outlet))
+            .fold(
+                K::zero(),
+                |most, far| if most.is_below(far) { far } else { most },
+            )
     }
 
     // The junctions of v, w and the outlets of `set`, as a set of junctions.
     pub fn mask(&self, v: usize, w: usize, set: usize) -> usize {
-        let mut mask = bit(v) | bit(w);
-        for place in 0..16 {
-            if set & bit(place) != 0 {
-                if let Some(outlet) = self.outlet(place) {
-                    mask = mask | bit(outlet);
-                }
-            }
-        }
-        mask
+        members(set)
+            .filter_map(|place| self.outlet(place))
+            .fold(bit(v) | bit(w), |mask, outlet| mask | bit(outlet))
     }
 
     // What `set` costs at v where nothing but v joins two parts of it: zero at the outlet of a set of one.
-    fn meeting(&self, table: &[Option<K>], v: usize, set: usize) -> Option<K> {
-        let mut least = None;
-        for place in 0..16 {
-            if set == bit(place) && self.outlet(place) == Some(v) {
-                least = Some(K::zero());
-            }
-        }
-        for part in 1..set {
-            if set & part == part {
-                let one = at(table, cell(v, self.sets, part));
-                let other = at(table, cell(v, self.sets, set ^ part));
-                least = lesser(least, added(one, other));
-            }
-        }
-        least
+    fn meeting(&self, table: &Table<K>, v: usize, set: usize) -> Option<K> {
+        let alone = members(set).any(|place| set == bit(place) && self.outlet(place) == Some(v));
+        (1..set)
+            .filter(|part| has(set, *part))
+            .map(|part| added(table.at(v, part), table.at(v, set ^ part)))
+            .fold(alone.then_some(K::zero()), lesser)
     }
 
     // The recurrence for one set, where `table` has it for all parts of the set.
-    fn fill(&self, table: &mut [Option<K>], set: usize) {
+    fn fill(&self, table: &mut Table<K>, set: usize) {
         for by in 0..self.junctions {
             let met = self.meeting(table, by, set);
             for v in 0..self.junctions {
-                lower(
-                    table,
-                    cell(v, self.sets, set),
-                    added(self.distance(v, by), met),
-                );
+                table.lower(v, set, added(self.distance(v, by), met));
             }
         }
     }
 
-    // The least cost of joining v with the outlets of each set that is not empty, at v × sets + set.
-    pub fn table(&self, heap: Global) -> Result<Vec<Option<K>>, AllocError> {
-        let mut table = row_of(heap, None, self.junctions.saturating_mul(self.sets))?;
+    // The least cost of joining v with the outlets of each set that is not empty, at v and the set.
+    pub fn table(&self, heap: Global) -> Result<Table<K>, AllocError> {
+        let mut table = Table::filled(heap, self.junctions, self.sets, None)?;
         for set in 1..self.sets {
             self.fill(&mut table, set);
         }

@@ -1,134 +1,153 @@
 // A plain labelling of the trial's own, with bounds of any kind, right or wrong.
-use crate::costs::{added, at, bit, lower, row_of};
+use crate::costs::{added, bit, lesser};
 use crate::record::Laid;
-use crate::survey::{Survey, cell};
+use crate::survey::Survey;
+use crate::table::Table;
 use network::Cost;
 use std::alloc::{AllocError, Global};
 
-// What labels cost, and which are settled.
-#[derive(Drop)]
-struct Walk<K> {
-    reached: Vec<Option<K>>,
-    settled: Vec<bool>,
+// What a label costs, if it is reached, and whether it is settled.
+#[derive(Clone, Copy)]
+pub struct Reached<K> {
+    pub cost: Option<K>,
+    pub settled: bool,
 }
 
-impl<K: Cost> Walk<K> {
-    fn is_settled(&self, code: usize) -> bool {
-        self.settled.get(code).copied().unwrap_or(false)
+// The labels, by code.
+#[derive(Drop)]
+struct Walk<'a, K> {
+    survey: &'a Survey<K>,
+    runs: &'a [Laid<K>],
+    labels: Vec<Reached<K>>,
+}
+
+impl<K: Cost> Walk<'_, K> {
+    // A label, unreached where there is none of this code.
+    fn label(&self, code: usize) -> Reached<K> {
+        self.labels.get(code).copied().unwrap_or(Reached {
+            cost: None,
+            settled: false,
+        })
     }
 
     // A candidate for a label.
-    fn offer(&mut self, code: usize, cost: Option<K>) {
-        if !self.is_settled(code) {
-            lower(&mut self.reached, code, cost);
+    fn offer(&mut self, v: usize, set: usize, cost: Option<K>) {
+        if let Some(label) = self.labels.get_mut(self.survey.code(v, set)) {
+            if !label.settled {
+                label.cost = lesser(label.cost, cost);
+            }
         }
     }
 
     // The waiting label of least cost and bound together, the first among equals.
-    fn least(&self, bounds: &[Option<K>]) -> Option<usize> {
-        let mut best: Option<(K, usize)> = None;
-        for (code, cost) in self.reached.iter().enumerate() {
-            if self.is_settled(code) {
-                continue;
-            }
-            if let Some(key) = added(*cost, at(bounds, code)) {
-                best = match best {
-                    Some((k, c)) if !key.is_below(k) => Some((k, c)),
-                    _ => Some((key, code)),
-                };
-            }
-        }
-        match best {
-            None => None,
-            Some((_, code)) => Some(code),
-        }
+    fn least(&self, bounds: &Table<K>) -> Option<usize> {
+        self.labels
+            .iter()
+            .zip(bounds.costs.iter())
+            .enumerate()
+            .filter(|(_, (label, _))| !label.settled)
+            .filter_map(|(code, (label, bound))| {
+                added(label.cost, *bound).map(|key| (key, code))
+            })
+            .reduce(|best, next| if next.0.is_below(best.0) { next } else { best })
+            .map(|(_, code)| code)
     }
 
     // The candidates over the open runs at v.
-    fn along(&mut self, runs: &[Laid<K>], sets: usize, v: usize, set: usize) {
-        let cost = at(&self.reached, cell(v, sets, set));
-        for run in runs {
+    fn along(&mut self, v: usize, set: usize) {
+        let cost = self.label(self.survey.code(v, set)).cost;
+        for run in self.runs.iter().filter(|run| run.open) {
             let over = added(cost, Some(run.cost));
-            if run.open && run.a as usize == v {
-                self.offer(cell(run.b as usize, sets, set), over);
+            let (a, b) = run.ends();
+            if a == v {
+                self.offer(b, set, over);
             }
-            if run.open && run.b as usize == v {
-                self.offer(cell(run.a as usize, sets, set), over);
+            if b == v {
+                self.offer(a, set, over);
             }
         }
     }
 
     // The candidates by a fork at v.
-    fn across(&mut self, sets: usize, v: usize, set: usize) {
-        let cost = at(&self.reached, cell(v, sets, set));
-        for other in 1..sets {
-            if set & other == 0 && self.is_settled(cell(v, sets, other)) {
-                let both = added(cost, at(&self.reached, cell(v, sets, other)));
-                self.offer(cell(v, sets, set | other), both);
+    fn across(&mut self, v: usize, set: usize) {
+        let cost = self.label(self.survey.code(v, set)).cost;
+        for other in 1..self.survey.sets {
+            let label = self.label(self.survey.code(v, other));
+            if set & other == 0 && label.settled {
+                self.offer(v, set | other, added(cost, label.cost));
             }
         }
     }
 
     // Settles a label and offers what it leads to.
-    fn settle(&mut self, runs: &[Laid<K>], sets: usize, code: usize) {
-        if code < self.settled.len() {
-            self.settled[code] = true;
+    fn settle(&mut self, code: usize) {
+        if let Some(label) = self.labels.get_mut(code) {
+            label.settled = true;
         }
+        let sets = self.survey.sets;
         if sets > 0 {
-            self.along(runs, sets, code / sets, code % sets);
-            self.across(sets, code / sets, code % sets);
+            self.along(code / sets, code % sets);
+            self.across(code / sets, code % sets);
         }
     }
 }
 
 // The labels of the outlets alone, each with its own place.
-fn started<K: Cost>(heap: Global, survey: &Survey<K>) -> Result<Walk<K>, AllocError> {
-    let codes = survey.junctions.saturating_mul(survey.sets);
-    let mut walk = Walk {
-        reached: row_of(heap, None, codes)?,
-        settled: row_of(heap, false, codes)?,
+fn started<'a, K: Cost>(
+    heap: Global,
+    survey: &'a Survey<K>,
+    runs: &'a [Laid<K>],
+) -> Result<Walk<'a, K>, AllocError> {
+    let unreached = Reached {
+        cost: None,
+        settled: false,
     };
-    for place in 0..16 {
-        if let Some(outlet) = survey.outlet(place) {
-            walk.offer(cell(outlet, survey.sets, bit(place)), Some(K::zero()));
-        }
+    let codes = survey.junctions.saturating_mul(survey.sets);
+    let labels = vec![in heap; unreached; codes]?;
+    let mut walk = Walk {
+        survey,
+        runs,
+        labels,
+    };
+    for (place, outlet) in survey.outlets.iter().skip(1).enumerate() {
+        walk.offer(*outlet, bit(place), Some(K::zero()));
     }
     Ok(walk)
 }
 
-// What it costs to join all outlets and how many turns that took; no cost where no label waits. With `hasty` it
-// ends when the root's label with all others is first reached, which is wrong.
-pub fn walked<K: Cost>(
+// What it costs to join all outlets and how many turns that took; no cost where no label waits. It goes on until
+// `ends` says of the root's label with all others that it ends: right is where that is settled.
+pub fn walked<K: Cost, F: Fn(Reached<K>) -> bool>(
     heap: Global,
     survey: &Survey<K>,
     runs: &[Laid<K>],
-    bounds: &[Option<K>],
-    hasty: bool,
-) -> Result<(Option<K>, u32), AllocError> {
-    let mut walk = started(heap, survey)?;
-    let root = survey.outlets.first().copied().unwrap_or(0);
-    let goal = cell(root, survey.sets, survey.sets.saturating_sub(1));
+    bounds: &Table<K>,
+    ends: F,
+) -> Result<(Option<K>, u32), AllocError>
+    requires { F.IsAlwaysCallable ends }
+{
+    let mut walk = started(heap, survey, runs)?;
+    let goal = survey.code(survey.root(), survey.all());
     let mut turns: u32 = 0;
-    for _turn in 0..walk.reached.len() {
+    for _turn in 0..walk.labels.len() {
         let Some(code) = walk.least(bounds) else {
             return Ok((None, turns));
         };
         turns = turns.saturating_add(1);
-        walk.settle(runs, survey.sets, code);
-        if code == goal || hasty && at(&walk.reached, goal).is_some() {
+        walk.settle(code);
+        if ends(walk.label(goal)) {
             break;
         }
     }
-    Ok((at(&walk.reached, goal), turns))
+    Ok((walk.label(goal).cost, turns))
 }
 
 // The bounds of the farthest outlet, by the distances of a survey, for each label.
-pub fn far_bounds<K: Cost>(heap: Global, survey: &Survey<K>) -> Result<Vec<Option<K>>, AllocError> {
-    let mut bounds = row_of(heap, None, survey.junctions.saturating_mul(survey.sets))?;
+pub fn far_bounds<K: Cost>(heap: Global, survey: &Survey<K>) -> Result<Table<K>, AllocError> {
+    let mut bounds = Table::filled(heap, survey.junctions, survey.sets, None)?;
     for v in 0..survey.junctions {
         for set in 0..survey.sets {
-            let far = survey.farthest(v, set);
-            lower(&mut bounds, cell(v, survey.sets, set), Some(far));
+            bounds.lower(v, set, Some(survey.farthest(v, set)));
         }
     }
     Ok(bounds)

@@ -1,32 +1,57 @@
-// Answers and plans of the library, as plain numbers.
+// Answers and plans of the library, as the oracle says them.
 #![tactic(auto)]
 
 use district::view::View;
 use estimate::Estimator;
 use labelling::{Label, Way};
-use network::Cost;
+use network::{Cost, Refusal};
 use oracle::kind::Kind;
-use oracle::said::{Said, dug, only, priced};
+use oracle::record::Fails;
+use oracle::said::{Figure, Said, dug};
 use queue::Queue;
 use replay::Answer;
 use search::plan::plan;
 use search::{NoPlan, Plan};
 
+// The question of a refusal.
+pub fn fails_of(why: Refusal) -> Fails {
+    match why {
+        Refusal::JunctionCount => Fails::JunctionCount,
+        Refusal::RunCapacity => Fails::RunCapacity,
+        Refusal::NotAJunction => Fails::NotAJunction,
+        Refusal::SameEnds => Fails::SameEnds,
+        Refusal::NoCost => Fails::NoCost,
+        Refusal::TooBulky => Fails::TooBulky,
+        Refusal::RunsFull => Fails::RunsFull,
+        Refusal::NoRun => Fails::NoRun,
+        Refusal::RunState => Fails::RunState,
+        Refusal::AlreadyMarked => Fails::AlreadyMarked,
+        Refusal::OutletsFull => Fails::OutletsFull,
+        Refusal::NotMarked => Fails::NotMarked,
+        Refusal::NoOutlet => Fails::NoOutlet,
+        Refusal::LabelMemory => Fails::LabelMemory,
+        Refusal::QueueCapacity => Fails::QueueCapacity,
+        Refusal::EstimatorFit => Fails::EstimatorFit,
+        Refusal::AnswerRow => Fails::AnswerRow,
+        Refusal::CodeBeyond => Fails::CodeBeyond,
+    }
+}
+
 fn read_plan<K: Kind>(res: Result<Plan<K>, NoPlan<K>>, row: &[u8]) -> Said {
     match res {
-        Ok(plan) => priced(0, plan.count, plan.cost, dug(row)),
-        Err(NoPlan::Refused(why)) => only(why.number()),
-        Err(NoPlan::Unjoined(count)) => priced(18, count, K::zero(), 0),
-        Err(NoPlan::Stopped(count, floor)) => priced(19, count, floor, 0),
+        Ok(plan) => Said::Planned(plan.count, Figure::of(plan.cost), dug(row)),
+        Err(NoPlan::Refused(why)) => Said::Refused(fails_of(why)),
+        Err(NoPlan::Unjoined(count)) => Said::Unjoined(count),
+        Err(NoPlan::Stopped(count, floor)) => Said::Stopped(count, Figure::of(floor)),
     }
 }
 
 pub fn read_answer<K: Kind>(answer: &Answer<K>, row: &[u8]) -> Said {
     match answer {
-        Answer::Untried => only(99),
-        Answer::Laid(run) => priced(0, *run as u32, K::zero(), 0),
-        Answer::Done => only(0),
-        Answer::Refused(why) => only(why.number()),
+        Answer::Untried => Said::Untried,
+        Answer::Laid(run) => Said::Laid(*run as usize),
+        Answer::Done => Said::Done,
+        Answer::Refused(why) => Said::Refused(fails_of(*why)),
         Answer::Planned(plan) => read_plan(Ok(*plan), row),
         Answer::NotPlanned(why) => read_plan(Err(*why), row),
     }

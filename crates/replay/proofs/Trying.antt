@@ -1,13 +1,12 @@
--- A fresh district's costs, and a plan tried by what `plan` left. Assumes nothing.
-use Rattle.std.proofs.Common.{◌≡◌, ℕ, ◌≤◌, min, Bool, true, false, cond, ◌&&◌, ltb, leb, List, [], length, Some, Ok, Err, vec_items, Option, Result, sym, refl, ap, ◌∙◌, subst, arith, MatchResult}
+-- A plan tried by what `plan` left, and a call that was tried in its turn. Assumes nothing.
+use Rattle.std.proofs.Common.{◌≡◌, ℕ, ◌≤◌, min, Bool, true, false, cond, ◌&&◌, ltb, leb, List, length, Some, Ok, Err, vec_items, Option, Result, sym, refl, ap, ◌∙◌, subst, arith, MatchResult}
 use Rattle.std.proofs.lemmas.Result.{MatchResult-weaker}
 use Rattle.std.proofs.lemmas.Bool.Decides.{nat_tests}
 use Rattle.network.specs.Costs.{Kind}
 use Rattle.network.specs.Layouts.{Layout, Priced}
 use Rattle.network.specs.declared.refusal.Refusal.{Refusal}
 use Rattle.network.specs.declared.refusal.Refusal.TheVariants.{EstimatorFit, AnswerRow}
-use Rattle.network.specs.declared.run.Run.{Run}
-use Rattle.district.specs.Model.{Model, make_answer}
+use Rattle.district.specs.Model.{Model}
 use Rattle.estimate.specs.Estimates.{Prepared}
 use Rattle.labelling.specs.declared.kinds.Size.{Size}
 use Rattle.labelling.specs.Questions.{room_answer}
@@ -31,24 +30,10 @@ use Rattle.district.specs.Model.{seen}
 use Rattle.replay.specs.declared.turn.Reply.{Reply}
 use Rattle.replay.specs.declared.turn.Call.{Call}
 use Rattle.replay.specs.declared.turn.Call.TheVariants.{Lay, Reprice, Close, Open, Mark, Unmark, Plan as Planning}
-use Rattle.replay.specs.Calls.{Desk, allowed}
+use Rattle.labelling.specs.declared.desk.Desk.{Desk as LentDesk}
+use Rattle.search.specs.Desks.{Stands}
+use Rattle.replay.specs.Calls.{Desk, desk, allowed, offered}
 use Rattle.replay.specs.Sequence.{answered, Sought, Asked, Tried, PlanTried, ByCall}
-
--- the runs of a district that was made
-abbrev runs_in : {K : Type 0} → Result (Model K) Refusal → List (Run K)
-runs_in (Ok m) = m.runs
-runs_in (Err why) = []
-
-either : {K : Type 0} (b : Bool) (x y : Result (Model K) Refusal) → runs_in x ≡ [] → runs_in y ≡ [] → runs_in (cond b x y) ≡ []
-either true x y p q = p
-either false x y p q = q
-
--- a fresh district has no runs, so their costs are within bounds
-pub fresh_priced : {K : Type 0} (kind : Kind K) (n capacity : ℕ) (m : Model K) → make_answer K n capacity ≡ Ok m → Priced kind m.runs
-fresh_priced {K} kind n capacity m e =
-    let none : runs_in (make_answer K n capacity) ≡ [] =
-    either (ltb n 1) _ _ refl (either (ltb 1024 n) _ _ refl (either (ltb 4096 capacity) _ _ refl refl)) in
-    subst (Priced kind) (sym none ∙ ap runs_in e) (λ i d l. absurd (omega arith))
 
 -- the questions about memory, passed with less, are passed with more
 pub room_more : {K : Type 0} (l : Layout K) (p q c d : ℕ) (size : Size) → p ≤ q → c ≤ d → Ok size ≡ room_answer l p c → room_answer l p c ≡ room_answer l q d
@@ -62,12 +47,12 @@ room_more l p q c d size lp lc e =
     f ∙ sym g
 
 module _ {K : Type 0} (kind : Kind K) (makes : Layout K → (ℕ → ℕ → K) → Type 0) (desk : Desk) (limit : ℕ) (said : Result (Plan K) (NoPlan K)) where
-  pub asked_by : (l : Layout K) (row row' : List ℕ) (bound : ℕ → ℕ → K) (was left : Tables K) (waiting : List (Option K)) (A B C D : Type 0) → Priced kind l.runs
+  pub asked_by : (l : Layout K) (row row' : List ℕ) (bound : ℕ → ℕ → K) (was left : Tables K) (waiting : List (Option K)) (A B : Type 0) → Priced kind l.runs
       → MatchResult (questions l desk.labels desk.queue (desk.fits l.junctions (length l.outlets)) (length row))
       (λ _. Carried kind bound l limit was left row waiting (record { answer = said; row = row' }) × makes l bound × Prepared kind l bound × A × (Priced kind l.runs → Right kind bound l limit left row' said))
-      (λ why. (said ≡ Err (Refused why)) × B × C × D × (row' ≡ row))
+      (λ why. (said ≡ Err (Refused why)) × B × (row' ≡ row))
       → Asked kind makes desk l limit row row' said
-  asked_by l row row' bound was left waiting A B C D priced p =
+  asked_by l row row' bound was left waiting A B priced p =
       MatchResult-weaker (questions l desk.labels desk.queue (desk.fits l.junctions (length l.outlets)) (length row)) p
       (λ _ h. record {
         bound = bound;
@@ -77,7 +62,7 @@ module _ {K : Type 0} (kind : Kind K) (makes : Layout K → (ℕ → ℕ → K) 
         labelled = h.0.plan;
         right = subst (λ t. Right kind bound l limit t row' said) h.0.labels (h.4 priced);
       })
-      (λ why h. (h.0, h.4))
+      (λ why h. (h.0, h.2))
 
 -- what a plan's questions let pass within its allowance
 pub let_pass : (q : Result Size Refusal) (b : Bool) (s size : Size) → Ok size ≡ then_ask q (cond b (Ok s) (Err EstimatorFit)) → ((x : Size) × (Ok x ≡ q)) × (b ≡ true)
@@ -116,6 +101,11 @@ pub asked_refused : {K : Type 0} (kind : Kind K) (makes : Layout K → (ℕ → 
 asked_refused {K} kind makes desk a l row why e =
     not_let_pass K (λ _. Sought kind makes l a.limit row row (Err (Refused why))) row (room_answer l (allowed desk a).labels (allowed desk a).queue) (cond (ltb (length row) (length l.runs)) (Err AnswerRow) (Ok (size_of l)))
     (desk.fits l.junctions (length l.outlets)) (leb l.junctions a.junctions) (size_of l) why e
+
+-- a desk that stands offers the same
+pub same_offered : {K Q E : Type 0} (lender : Q → List ℕ) (waiting : Q → List (Option K)) (holder : E → List ℕ) (within : E → ℕ → ℕ → Bool) (d d' : LentDesk Q E K)
+    → Stands lender waiting holder within d d' → offered waiting within d' ≡ offered waiting within d
+same_offered lender waiting holder within d d' s i = desk (s.labels i) (s.ways i) (s.lent i).1.1 (s.room i)
 
 -- a list written over itself
 same_items : {X Z : Type 0} (v : Vec X Z) → with_items v v.items ≡ v

@@ -1,8 +1,9 @@
 -- What each call writes into the abstract district, and how it answers. Assumes nothing.
-use Rattle.std.specs.Prelude.{ℕ, min, Bool, ◌&&◌, Ok, Err, Result, nat_le}
+use Rattle.std.specs.Prelude.{ℕ, min, Bool, ◌&&◌, List, length, Ok, Err, Option, Result, nat_le}
 use Rattle.network.specs.Costs.{Kind}
 use Rattle.network.specs.declared.refusal.Refusal.{Refusal}
 use Rattle.district.specs.Model.{Model, after_lay, after_reprice, after_close, after_open, after_mark, after_unmark}
+use Rattle.labelling.specs.declared.desk.Desk.{Desk as LentDesk}
 use Rattle.search.specs.declared.answer.Plan.{Plan}
 use Rattle.search.specs.declared.answer.NoPlan.{NoPlan}
 use Rattle.search.specs.declared.answer.NoPlan.TheVariants.{Refused}
@@ -21,6 +22,10 @@ pub record Desk : Type 0 where
 -- the desk of two label rows, a queue and an estimator: the shorter row has the places for labels
 abbrev pub desk : ℕ → ℕ → ℕ → (ℕ → ℕ → Bool) → Desk
 desk labels ways queue fits = record { labels = min labels ways; queue = queue; fits = fits }
+
+-- what a desk of those offers, where the first two arguments are the members `waiting` of its queue and `within` of its estimator
+abbrev pub offered : {K Q E : Type 0} → (Q → List (Option K)) → (E → ℕ → ℕ → Bool) → LentDesk Q E K → Desk
+offered waiting within d = desk (length d.labels.now) (length d.ways.now) (length (waiting d.queue)) (within d.estimator)
 
 -- what a plan may use of the desk
 abbrev pub allowed : Desk → Allowance → Desk

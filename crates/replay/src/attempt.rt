@@ -1,20 +1,20 @@
 // One call, tried on a district.
-ghost use Rattle.std.specs.Prelude.{◌≡◌, min, length, if◌then◌else◌, Ok, Err, nat_le};
+ghost use Rattle.std.specs.Prelude.{◌≡◌, if◌then◌else◌, Ok, Err, nat_le};
 ghost use Rattle.network.specs.declared.refusal.Refusal.TheVariants.{EstimatorFit};
 ghost use Rattle.network.specs.Layouts.{Priced};
 ghost use Rattle.district.specs.Model.{layout_of, model_of};
 ghost use Rattle.labelling.specs.Questions.{room_answer};
 ghost use Rattle.labelling.specs.Starts.{size_of};
-ghost use Rattle.labelling.specs.Tables.{standing};
+ghost use Rattle.search.specs.Desks.{Stands};
 ghost use Rattle.search.specs.Planning.{then_ask};
-ghost use Rattle.replay.specs.Calls.{desk, allowed, after};
+ghost use Rattle.replay.specs.Calls.{allowed, after, offered};
 ghost use Rattle.replay.specs.Sequence.{Asked, Tried};
 
 use crate::turn::{Allowance, Call, Reply};
 use district::district::District;
 use district::view::View;
 use estimate::Estimator;
-use labelling::{Label, Size, Way, room};
+use labelling::{Desk, Size, room};
 use network::{Cost, Refusal};
 use queue::Queue;
 use search::plan::plan;
@@ -41,41 +41,29 @@ fn ask_within<K: Cost>(
 fn try_plan<Q: Queue, E: Estimator<Cost = Q::Cost>>(
     view: &View<'_, Q::Cost>,
     allowance: Allowance,
-    labels: &mut [Label<Q::Cost>],
-    ways: &mut [Way],
-    queue: &mut Q,
-    estimator: &mut E,
+    desk: &mut Desk<'_, Q, E>,
     row: &mut [u8],
 ) -> Result<Plan<Q::Cost>, NoPlan<Q::Cost>>
     requires { Priced Q.Cost.Cost.kind (layout_of view.now).runs }
-    ensures asks { Asked Q.Cost.Cost.kind E.makes (allowed (desk (length labels.old) (length ways.old) (length (Q.waiting queue.old)) (E.within estimator.old)) allowance) (layout_of view.now) allowance.limit row.old row.new result }
-    ensures lends { E.Estimator.lender estimator.new ≡ E.Estimator.lender estimator.old }
-    ensures stands { standing (Q.Queue.lender queue.new) (Q.waiting queue.new) ≡ standing (Q.Queue.lender queue.old) (Q.waiting queue.old) }
-    ensures room { E.within estimator.new ≡ E.within estimator.old }
+    ensures asks { Asked Q.Cost.Cost.kind E.makes (allowed (offered Q.waiting E.within desk.old) allowance) (layout_of view.now) allowance.limit row.old row.new result }
+    ensures stands { Stands Q.Queue.lender Q.waiting E.Estimator.lender E.within desk.old desk.new }
 {
-    let places = labels.len().min(ways.len()).min(allowance.labels);
-    let codes = (*queue).capacity().min(allowance.codes);
+    let places = desk.labels.len().min(desk.ways.len()).min(allowance.labels);
+    let codes = desk.queue.capacity().min(allowance.codes);
     ask_within(view, places, codes, allowance.junctions)?;
-    plan(view, allowance.limit, labels, ways, queue, estimator, row)
+    plan(view, allowance.limit, desk, row)
 }
 
 // A call, tried on the district. A plan writes into the row.
 pub(crate) fn try_call<Q: Queue, E: Estimator<Cost = Q::Cost>>(
     district: &mut District<Q::Cost>,
     call: Call<Q::Cost>,
-    labels: &mut [Label<Q::Cost>],
-    ways: &mut [Way],
-    queue: &mut Q,
-    estimator: &mut E,
+    desk: &mut Desk<'_, Q, E>,
     row: &mut [u8],
 ) -> Result<Reply<Q::Cost>, NoPlan<Q::Cost>>
-    requires { Priced Q.Cost.Cost.kind (model_of district.old).runs }
-    ensures prices { Priced Q.Cost.Cost.kind (model_of district.new).runs }
     ensures writes { model_of district.new ≡ after Q.Cost.Cost.kind (model_of district.old) call }
-    ensures answers { Tried Q.Cost.Cost.kind E.makes (desk (length labels.old) (length ways.old) (length (Q.waiting queue.old)) (E.within estimator.old)) (model_of district.old) row.old row.new result call }
-    ensures lends { E.Estimator.lender estimator.new ≡ E.Estimator.lender estimator.old }
-    ensures stands { standing (Q.Queue.lender queue.new) (Q.waiting queue.new) ≡ standing (Q.Queue.lender queue.old) (Q.waiting queue.old) }
-    ensures room { E.within estimator.new ≡ E.within estimator.old }
+    ensures answers { Tried Q.Cost.Cost.kind E.makes (offered Q.waiting E.within desk.old) (model_of district.old) row.old row.new result call }
+    ensures stands { Stands Q.Queue.lender Q.waiting E.Estimator.lender E.within desk.old desk.new }
 {
     match call {
         Call::Lay { a, b, cost } => Ok(Reply::Laid(district.lay(a, b, cost)?)),
@@ -101,7 +89,7 @@ pub(crate) fn try_call<Q: Queue, E: Estimator<Cost = Q::Cost>>(
         }
         Call::Plan(allowance) => {
             let view = district.view();
-            let plan = try_plan(&view, allowance, labels, ways, queue, estimator, row)?;
+            let plan = try_plan(&view, allowance, desk, row)?;
             Ok(Reply::Planned(plan))
         }
     }

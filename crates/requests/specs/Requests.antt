@@ -1,5 +1,5 @@
 -- What the lines of a district ask for. Assumes nothing.
-use Rattle.std.specs.Prelude.{ℕ, ◌+◌, ◌-◌, ◌*◌, ◌^◌, min, cond, List, [], ◌∷◌, Some, None, vec_len, Option}
+use Rattle.std.specs.Prelude.{ℕ, ◌-◌, ◌*◌, ◌^◌, min, Bool, true, false, cond, List, count_by, Some, None, vec_len, Option}
 use Rattle.std.specs.Option.{unwrap_or}
 use Rattle.commands.specs.declared.command.Figure.{Figure}
 use Rattle.commands.specs.declared.command.Call.{Call}
@@ -51,20 +51,19 @@ asked_of tools r = asked_by tools r.call r.row r.tools
 abbrev pub shape : {K : Type 0} → Turn K → Attempt K × ℕ
 shape t = (t.call, vec_len t.row)
 
--- one where a call marks an outlet
-abbrev pub marking : {K : Type 0} → Attempt K → ℕ
-marking (Laying a b cost) = 0
-marking (Repricing run cost) = 0
-marking (Closing run) = 0
-marking (Opening run) = 0
-marking (Marking junction) = 1
-marking (Unmarking junction) = 0
-marking (Planning allowance) = 0
+-- whether a call marks an outlet
+abbrev pub marks : {K : Type 0} → Attempt K → Bool
+marks (Laying a b cost) = false
+marks (Repricing run cost) = false
+marks (Closing run) = false
+marks (Opening run) = false
+marks (Marking junction) = true
+marks (Unmarking junction) = false
+marks (Planning allowance) = false
 
 -- how many calls mark an outlet
 abbrev pub marks_in : {K : Type 0} → List (Request K) → ℕ
-marks_in [] = 0
-marks_in (r ∷ rs) = marking r.call + marks_in rs
+marks_in rs = count_by (λ r. marks r.call) rs
 
 -- a label for each junction and each set that so many outlets, at most twelve, leave to the others
 abbrev pub labels_for : {K : Type 0} → ℕ → List (Request K) → ℕ

@@ -15,10 +15,7 @@ const PLACES: u64 = 12;
 fn up_to(said: Option<u64>, most: u64) -> u64
     ensures { result ≡ up_to said most }
 {
-    match said {
-        None => most,
-        Some(n) => n.min(most),
-    }
+    said.unwrap_or(most).min(most)
 }
 
 // For how many junctions an estimator may be prepared, by the places for distances that a line brings.

@@ -6,7 +6,8 @@ ghost use Rattle.requests.specs.Attempts.{money_written, crossings_written};
 use commands::Figure;
 use network::{CrossingsFirst, Money};
 
-// A kind of cost that a text can write.
+// A kind of cost that a text can write. Not by TryFrom and From, since their clauses tie no cost to the figure that it was read from, and
+// contracts above name `written`.
 pub trait Figured {
     // The cost that a figure writes; none where it is a figure of another kind.
     ghost written: { Figure → Option Self };

@@ -4,10 +4,8 @@
 mod attempts;
 mod figured;
 mod requests;
-mod rows;
 mod tools;
 
 pub use figured::Figured;
 pub use requests::{Request, labels_for, request_of, turns_for};
-pub use rows::row_of;
 pub use tools::Tools;

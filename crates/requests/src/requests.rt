@@ -1,10 +1,9 @@
 // What the lines of a district ask for, and the turns by which it is tried.
 ghost use Rattle.std.specs.Prelude.{◌≡◌, ◌-◌, ◌*◌, ◌^◌, ◌≤◌, min, map, IfOk};
-ghost use Rattle.requests.specs.Requests.{named_by, request_of, asked_of, shape, row_of, marking, marks_in, labels_for};
+ghost use Rattle.requests.specs.Requests.{named_by, request_of, asked_of, shape, row_of, marks_in, labels_for};
 
 use crate::attempts::attempt_of;
 use crate::figured::Figured;
-use crate::rows::row_of;
 use crate::tools::Tools;
 use commands::Call;
 use network::Cost;
@@ -57,35 +56,32 @@ pub fn request_of<K: Cost + Figured>(call: Call, before: usize) -> Option<Reques
 }
 
 // What is tried with `tools`: a plan that names others may take nothing, so it is refused and changes nothing.
-fn asked_of<K: Cost>(request: Request<K>, tools: Tools) -> (Attempt<K>, usize)
-    ensures { result ≡ asked_of tools request }
+fn asked_of<K: Cost>(request: &Request<K>, tools: Tools) -> (Attempt<K>, usize)
+    ensures { result ≡ asked_of tools request.now }
 {
-    match request.tools {
-        Some(named) => {
-            if named.is_same(tools) {
-                (request.call, request.row)
-            } else {
-                let nothing = Allowance {
-                    limit: 0,
-                    labels: 0,
-                    codes: 0,
-                    junctions: 0,
-                };
-                (Attempt::Plan(nothing), 0)
-            }
-        }
-        None => (request.call, request.row),
+    if request.tools.is_none_or(|named| named == tools) {
+        (request.call, request.row)
+    } else {
+        let nothing = Allowance {
+            limit: 0,
+            labels: 0,
+            codes: 0,
+            junctions: 0,
+        };
+        (Attempt::Plan(nothing), 0)
     }
 }
 
 // A turn that has not been tried.
-fn turn_of<K: Cost>(heap: Global, asked: (Attempt<K>, usize)) -> Result<Turn<K>, AllocError>
-    ensures { IfOk result (λ t. shape t ≡ asked) }
+fn turn_of<K: Cost>(heap: Global, request: &Request<K>, tools: Tools) -> Result<Turn<K>, AllocError>
+    ensures { IfOk result (λ t. shape t ≡ asked_of tools request.now) }
 {
-    let (call, length) = asked;
-    let row = row_of(heap, 0u8, length)?;
-    let answer = Answer::Untried;
-    Ok(Turn { call, answer, row })
+    let (call, row) = asked_of(request, tools);
+    Ok(Turn {
+        call,
+        answer: Answer::Untried,
+        row: vec![in heap; 0u8; row]?,
+    })
 }
 
 pub fn turns_for<K: Cost>(
@@ -95,33 +91,23 @@ pub fn turns_for<K: Cost>(
 ) -> Result<Vec<Turn<K>>, AllocError>
     ensures { IfOk result (λ v. map shape v.items ≡ map (asked_of tools) requests.now) }
 {
+    // A loop, since no clause of `try_collect` gives the list as a whole.
     let mut turns = Vec::new(heap);
     for request in requests {
-        let turn = turn_of(heap, asked_of(*request, tools))?;
+        let turn = turn_of(heap, request, tools)?;
         turns.push(turn)?;
     }
     Ok(turns)
 }
 
-// One for a call that marks an outlet.
-fn marking<K: Cost>(call: Attempt<K>) -> u32
-    ensures { result ≡ marking call }
-{
-    match call {
-        Attempt::Mark { junction: _ } => 1,
-        _ => 0,
-    }
-}
-
 // How many of them mark an outlet, up to twelve.
-fn marks_in<K: Cost>(requests: &[Request<K>]) -> u32
+fn marks_in<K: Cost>(requests: &[Request<K>]) -> usize
     ensures { result ≡ min (marks_in requests.now) 12 }
 {
-    let mut marks: u32 = 0;
-    for request in requests {
-        marks = (marks + marking(request.call)).min(12);
-    }
-    marks
+    let marks = requests
+        .iter()
+        .filter(|request| matches!(request.call, Attempt::Mark { .. }));
+    marks.count().min(12)
 }
 
 // How many labels their plans can need on so many junctions, of which a district has at most 1,024.

@@ -1,3 +1,4 @@
 pub mod Drawings
 pub mod Plans
 pub mod Promises
+pub mod Standing

@@ -1,7 +1,7 @@
 -- A plan, by what its steps left. Assumes nothing.
 use Rattle.std.proofs.Common.{◌≡◌, ℕ, zero, suc, ◌+◌, ◌-◌, ◌<◌, ◌≤◌, Bool, true, false, cond, eqb, ltb, ◌⊎◌, List, [], ◌∷◌, length, get_or, take, drop, replicate, ◌++◌, Some, None, Ok, Err, Result, sym, refl, ap, ◌∙◌, subst, inl, inr, arith, MatchResult}
 use lib.Bits.{or_disjoint}
-use Rattle.std.proofs.lemmas.List.{get_or-take, length-take-le}
+use Rattle.std.proofs.lemmas.List.{length-take-le}
 use Rattle.std.proofs.lemmas.Bool.{cases_Bool, cond-true, cond-false, eq-eqb, ne_eqb, eqb-true, eqb-false, ltb-false}
 use Rattle.network.specs.Costs.{Kind}
 use Rattle.network.specs.declared.run.Run.{Run}
@@ -11,7 +11,6 @@ use Rattle.network.specs.Layouts.{Layout, picked}
 use Rattle.network.specs.Bounds.{root, all_others}
 use Rattle.labelling.specs.declared.kinds.Back.{Back}
 use Rattle.labelling.specs.declared.kinds.Back.TheVariants.{Start, Run as ByRun, Fork}
-use Rattle.labelling.specs.declared.kinds.Label.{Label}
 use Rattle.labelling.specs.declared.kinds.Outcome.{Outcome}
 use Rattle.labelling.specs.declared.kinds.Outcome.TheVariants.{Finished}
 use Rattle.labelling.specs.declared.kinds.Size.{Size}
@@ -68,13 +67,9 @@ passed l places capacity fits row size e = after (room_answer l places capacity)
         }
 
 -- the outlets are junctions
-pub all_within : (n count : ℕ) (places : List ℕ) → count ≤ length places → ((k : ℕ) → k < count → get_or places k 0 < n) → Within n (take count places)
-all_within n count places fits inside =
-    along (take count places) (λ k lt. let e : length (take count places) ≡ count = length-take-le count places fits in subst (λ x. x < n) (sym (get_or-take count places k 0 (omega arith))) (inside k (omega arith)))
-  where
-    along : (xs : List ℕ) → ((k : ℕ) → k < length xs → get_or xs k 0 < n) → Within n xs
-    along [] h = tt
-    along (x ∷ xs) h = (h 0 (omega arith), along xs (λ k lt. h (suc k) (omega arith)))
+pub all_within : (n : ℕ) (xs : List ℕ) → ((k : ℕ) → k < length xs → get_or xs k 0 < n) → Within n xs
+all_within n [] h = tt
+all_within n (x ∷ xs) h = (h 0 (omega arith), all_within n xs (λ k lt. h (suc k) (omega arith)))
 
 -- an open run leads from v to w: it is laid, and w is its other end
 pub far_picked : {K : Type 0} (runs : List (Run K)) (marks : List Bool) (i v w : ℕ) (x : Run K) → picked runs marks i ≡ Some x
@@ -145,27 +140,23 @@ module _ {K : Type 0} (kind : Kind K) (l : Layout K) (x : Labelled K) (row : Lis
   concluded_one one = cond-true (eqb (length l.outlets) 1) _ _ (eq-eqb _ 1 one)
 
 -- the search that finished, as the code draws it
-module _ {K : Type 0} (kind : Kind K) (l : Layout K) (t : Tables K) (count : ℕ) (size : Size) (from : ℕ) (is-size : size ≡ size_of l) (is_from : from ≡ root l) where
-  pub finish_settled : Drawable l t count → Settled size l.runs t.ways from (size.sets - 1)
-  finish_settled d =
-      subst (λ (s : Size). Settled s l.runs t.ways from (s.sets - 1)) (sym is-size)
-      (subst (λ v. Settled (size_of l) l.runs t.ways v (all_others l)) (sym is_from) d.settled)
+module _ {K : Type 0} (kind : Kind K) (l : Layout K) (t : Tables K) (count : ℕ) (size : Size) (is-size : size ≡ size_of l) where
+  pub finish_settled : Drawable l t count → Settled size l.runs t.ways (root l) (size.sets - 1)
+  finish_settled d = subst (λ (s : Size). Settled s l.runs t.ways (root l) (s.sets - 1)) (sym is-size) d.settled
 
-  pub finish_turns : Drawable l t count → turn_of size l.runs t.ways from (size.sets - 1) ≤ count
-  finish_turns d =
-      subst (λ (s : Size). turn_of s l.runs t.ways from (s.sets - 1) ≤ count) (sym is-size)
-      (subst (λ v. turn_of (size_of l) l.runs t.ways v (all_others l) ≤ count) (sym is_from) d.turns)
+  pub finish_turns : Drawable l t count → turn_of size l.runs t.ways (root l) (size.sets - 1) ≤ count
+  finish_turns d = subst (λ (s : Size). turn_of s l.runs t.ways (root l) (s.sets - 1) ≤ count) (sym is-size) d.turns
 
-  pub finished_as : (p : Plan K) (row row' : List ℕ) → ((d : Label K) → p ≡ record { cost = (get_or t.labels (code_of size from (size.sets - 1)) d).cost; count = count })
-      → row' ≡ drawn size l.runs t.ways (suc count) from (size.sets - 1) (wiped (length l.runs) 0 row)
+  pub finished_as : (p : Plan K) (row row' : List ℕ) → p ≡ record { cost = cost_at kind t (code_of size (root l) (size.sets - 1)); count = count }
+      → row' ≡ drawn size l.runs t.ways (suc count) (root l) (size.sets - 1) (wiped (length l.runs) 0 row)
       → record { answer = Ok p; row = row' } ≡ ended_by kind l t count Finished row
   finished_as p row row' is-p is_row =
-      let by : Size → ℕ → Planned K = λ s v. record {
-        answer = priced_at (cost_at kind t (code_of s v (s.sets - 1))) count;
-        row = drawn s l.runs t.ways (suc count) v (s.sets - 1) (wiped (length l.runs) 0 row);
+      let by : Size → Planned K = λ s. record {
+        answer = priced_at (cost_at kind t (code_of s (root l) (s.sets - 1))) count;
+        row = drawn s l.runs t.ways (suc count) (root l) (s.sets - 1) (wiped (length l.runs) 0 row);
       } in
-      let first : ◌≡◌ {A = Planned K} (record { answer = Ok p; row = row' }) (by size from) = λ i. record { answer = Ok (is-p (record { reached = false; cost = kind.zero }) i); row = is_row i } in
-      first ∙ ap (λ s. by s from) is-size ∙ ap (by (size_of l)) is_from
+      let first : ◌≡◌ {A = Planned K} (record { answer = Ok p; row = row' }) (by size) = λ i. record { answer = Ok (is-p i); row = is_row i } in
+      first ∙ ap by is-size
 
 -- a promise by cases, where the case is known
 pub cases_ok : {X Y : Type 0} (P : X → Type 0) (R : Y → Type 0) (q : Result X Y) (x : X) → Ok x ≡ q → P x → MatchResult q P R

@@ -1,4 +1,5 @@
 pub mod Answers
+pub mod Desks
 pub mod Drawing
 pub mod Planning
 pub mod Promise

@@ -1,5 +1,6 @@
 -- What a plan asks, answers and leaves. Assumes nothing.
-use Rattle.std.specs.Prelude.{◌≡◌, ℕ, suc, ◌≤◌, Bool, false, cond, List, length, Ok, Err, Option, Result, ◌==◌, nat_lt, slice_index_or}
+use Rattle.std.specs.Prelude.{◌≡◌, ℕ, suc, ◌≤◌, Bool, cond, List, length, Ok, Err, None, Option, Result, ◌==◌, nat_lt, slice_index_or}
+use Rattle.std.specs.Option.{unwrap_or}
 use Rattle.network.specs.Costs.{Kind}
 use Rattle.network.specs.Layouts.{Layout}
 use Rattle.network.specs.Bounds.{root, all_others}
@@ -47,9 +48,9 @@ no_runs l row = wiped (length l.runs) 0 row
 abbrev pub runs_drawn : {K : Type 0} → Layout K → Tables K → ℕ → List ℕ → List ℕ
 runs_drawn l t count row = drawn (size_of l) l.runs t.ways (suc count) (root l) (all_others l) (no_runs l row)
 
--- the cost of the label at a code
+-- the cost of the label at a code, or zero where it is not reached
 abbrev pub cost_at : {K : Type 0} → Kind K → Tables K → ℕ → K
-cost_at kind t c = (slice_index_or t.labels c (record { reached = false; cost = kind.zero })).cost
+cost_at kind t c = unwrap_or (slice_index_or t.labels c None) kind.zero
 
 -- by how the labelling ended: the cost of the root with all others and its runs, or no plan and the row as it was
 abbrev pub ended_by : {K : Type 0} → Kind K → Layout K → Tables K → ℕ → Outcome K → List ℕ → Planned K

@@ -6,13 +6,13 @@ use network::{Cost, Refusal};
 use std::fmt;
 
 // A cheapest network: its cost, and how many turns the search took.
-#[derive(Clone, Copy)]
+#[derive(Clone, Copy, Debug, PartialEq, Eq)]
 pub struct Plan<K> {
     pub cost: K,
     pub count: u32,
 }
 
-#[derive(Clone, Copy)]
+#[derive(Clone, Copy, Debug, PartialEq, Eq)]
 pub enum NoPlan<K> {
     // A question was answered "no" before the search.
     Refused(Refusal),
@@ -51,7 +51,7 @@ impl<K: fmt::Display> fmt::Display for NoPlan<K> {
 
     fn fmt<W: fmt::Write>(&self, f: &mut fmt::Formatter<W>) -> fmt::Result {
         match self {
-            NoPlan::Refused(why) => write!(f, "refused {}", why.number()),
+            NoPlan::Refused(why) => write!(f, "{why}"),
             NoPlan::Unjoined(count) => write!(f, "refused 18, count {count}"),
             NoPlan::Stopped(count, floor) => {
                 write!(f, "refused 19, count {count}, floor {floor}")

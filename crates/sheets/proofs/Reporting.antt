@@ -1,5 +1,7 @@
 -- Trials that report what calls got. Assumes nothing.
-use Rattle.std.proofs.Common.{◌≡◌, ℕ, true, false, eqb, List, [], ◌∷◌, ◌++◌, length, Some, None, Option, sym, refl, ap, ◌∙◌, subst, arith}
+use Rattle.std.proofs.Common.{◌≡◌, ℕ, Bool, true, false, cond, Bor, MatchOption, eqb, List, [], ◌∷◌, ◌++◌, length, Some, None, Option, sym, refl, ap, ◌∙◌, subst, arith}
+use Rattle.std.specs.List.{find}
+use Rattle.std.specs.Option.{option_map}
 use Rattle.network.specs.Costs.{Kind}
 use Rattle.commands.specs.declared.command.QueueChoice.{QueueChoice}
 use Rattle.commands.specs.declared.command.QueueChoice.TheVariants.{Row, Heap}
@@ -34,6 +36,28 @@ none_last tools (x ∷ ts) t h = none_last tools ts t h.1
 apart : true ≡ false → ⊥
 apart e = let z : ◌≡◌ {A = ℕ} 0 1 = cc in omega arith
 
+none_found : {K : Type 0} (tools : Option Tools) (ts : List (Trial K)) → None ≡ find (λ t. reporting tools t.tools) ts → NoneReports tools ts
+none_found tools [] e = tt
+none_found tools (t ∷ ts) e = by (reporting tools t.tools) refl e (none_found tools ts)
+  where
+    by : (b : Bool) → reporting tools t.tools ≡ b → None ≡ cond b (Some t) (find (λ x. reporting tools x.tools) ts) → (None ≡ find (λ x. reporting tools x.tools) ts → NoneReports tools ts) → NoneReports tools (t ∷ ts)
+    by true is e rest = cc
+    by false is e rest = (is, rest e)
+
+some_found : {K : Type 0} (tools : Option Tools) (ts : List (Trial K)) (x : Trial K) → Some x ≡ find (λ t. reporting tools t.tools) ts → reporting tools x.tools ≡ true
+some_found tools [] x e = cc
+some_found tools (t ∷ ts) x e = by (reporting tools t.tools) refl e (some_found tools ts x)
+  where
+    by : (b : Bool) → reporting tools t.tools ≡ b → Some x ≡ cond b (Some t) (find (λ y. reporting tools y.tools) ts) → (Some x ≡ find (λ y. reporting tools y.tools) ts → reporting tools x.tools ≡ true) → reporting tools x.tools ≡ true
+    by true is e rest = let same : x ≡ t = cc in subst (λ y. reporting tools y.tools ≡ true) (sym same) is
+    by false is e rest = rest e
+
+-- what `find` answers
+pub found : {K : Type 0} (tools : Option Tools) (ts : List (Trial K)) (r : Option (Bor (Trial K))) → option_map (λ t. t.now) r ≡ find (λ t. reporting tools t.tools) ts
+    → MatchOption r (NoneReports tools ts) (λ t. reporting tools t.now.tools ≡ true)
+found tools ts None e = none_found tools ts e
+found tools ts (Some x) e = some_found tools ts x.now e
+
 module _ {K : Type 0} (kind : Kind K) (s : Sheet K) where
   each_push : (tools : Tools) (ts : List (Trial K)) (t : Trial K) → SheetTried kind s tools t → EachTried kind s ts → EachTried kind s (ts ++ t ∷ [])
   each_push tools [] t h e = (subst (λ x. SheetTried kind s x t) (sym h.with_tools) h, tt)
@@ -56,16 +80,33 @@ module _ {K : Type 0} (kind : Kind K) (s : Sheet K) where
   reported_more : (tools : Tools) (us vs : List (Trial K)) → Grown kind s us vs → Reported s us tools → Reported s vs tools
   reported_more tools us vs g r = λ is. g.kept (Some tools) (r is)
 
-  pub by_each : (queue : QueueChoice) (ts us vs ws : List (Trial K)) → GrownBy kind s (record { queue = queue; estimator = Silent }) ts us → GrownBy kind s (record { queue = queue; estimator = Farthest }) us vs → GrownBy kind s (record { queue = queue; estimator = Larger }) vs ws → GrownFor kind s queue ts ws
-  by_each queue ts us vs ws a b c = record {
-    grown = grown_more ts us ws a.grown (grown_more us vs ws b.grown c.grown);
-    reports = by;
-  }
+  -- plans with these estimators are reported
+  abbrev pub EachReported : QueueChoice → List EstimatorChoice → List (Trial K) → Type 0
+  EachReported queue [] ts = Unit {0}
+  EachReported queue (e ∷ es) ts = Reported s ts (record { queue = queue; estimator = e }) × EachReported queue es ts
+
+  -- the trials have grown, and report what plans with the queue and these estimators got
+  pub record GrownWith (queue : QueueChoice) (es : List EstimatorChoice) (ts us : List (Trial K)) : Type 0 where
+    pub grown : Grown kind s ts us
+    pub reports : EachReported queue es us
+
+  pub with_none : (queue : QueueChoice) (ts : List (Trial K)) → GrownWith queue [] ts ts
+  with_none queue ts = record { grown = grown_none ts; reports = tt }
+
+  each_more : (queue : QueueChoice) (e : EstimatorChoice) (es : List EstimatorChoice) (us vs : List (Trial K)) → Grown kind s us vs → EachReported queue es us → Reported s vs (record { queue = queue; estimator = e }) → EachReported queue (es ++ e ∷ []) vs
+  each_more queue e [] us vs g r h = (h, tt)
+  each_more queue e (x ∷ es) us vs g r h = (reported_more _ us vs g r.0, each_more queue e es us vs g r.1 h)
+
+  pub with_more : (queue : QueueChoice) (e : EstimatorChoice) (es : List EstimatorChoice) (ts us vs : List (Trial K)) → GrownWith queue es ts us → GrownBy kind s (record { queue = queue; estimator = e }) us vs → GrownWith queue (es ++ e ∷ []) ts vs
+  with_more queue e es ts us vs a b = record { grown = grown_more ts us vs a.grown b.grown; reports = each_more queue e es us vs b.grown a.reports b.reports }
+
+  pub with_all : (queue : QueueChoice) (ts us : List (Trial K)) → GrownWith queue (Silent ∷ Farthest ∷ Larger ∷ []) ts us → GrownFor kind s queue ts us
+  with_all queue ts us a = record { grown = a.grown; reports = by }
     where
-      by : (e : EstimatorChoice) → Reported s ws (record { queue = queue; estimator = e })
-      by Silent = reported_more _ us ws (grown_more us vs ws b.grown c.grown) a.reports
-      by Farthest = reported_more _ vs ws c.grown b.reports
-      by Larger = c.reports
+      by : (e : EstimatorChoice) → Reported s us (record { queue = queue; estimator = e })
+      by Silent = a.reports.0
+      by Farthest = a.reports.1.0
+      by Larger = a.reports.1.1.0
 
   pub by_both : (ts us : List (Trial K)) → GrownFor kind s Row [] ts → GrownFor kind s Heap ts us → Named kind s us
   by_both ts us a b = record { each = b.grown.each (a.grown.each tt); plans = λ tools. by tools.queue tools.estimator }

@@ -1,7 +1,8 @@
 -- Turns tried with the tools that were chosen. Assumes nothing.
-use Rattle.std.proofs.Common.{◌≡◌, ℕ, min, Bool, true, ◌&&◌, List, Option, sym, subst, arith}
+use Rattle.std.proofs.Common.{◌≡◌, ℕ, min, Bool, true, ◌&&◌, List, Result, Ok, Err, IfOk, MatchResult, IsOkAnd, sym, subst, arith}
 use Rattle.network.specs.declared.refusal.Refusal.{Refusal}
 use Rattle.network.specs.Costs.{Kind}
+use Rattle.district.specs.Model.{make_answer}
 use Rattle.estimate.specs.Estimates.{Silence}
 use Rattle.estimate.specs.Greater.{GreaterOf}
 use Rattle.farthest.specs.Distances.{Far}
@@ -11,13 +12,13 @@ use Rattle.commands.specs.declared.command.EstimatorChoice.TheVariants.{Silent, 
 use Rattle.replay.specs.declared.turn.Turn.{Turn}
 use Rattle.replay.specs.Calls.{desk}
 use Rattle.requests.specs.declared.tools.Tools.{Tools}
-use Rattle.sheets.specs.Sheets.{TriedBy, Tried, makes_of, desk_for}
+use Rattle.sheets.specs.Sheets.{TriedBy, Tried, makes_of, desk_for, queue_room}
 
 -- a heap over three rows of one length
 pub held_all : (n a b c : ℕ) → a ≡ n → b ≡ n → c ≡ n → min 4294967295 (min a (min b c)) ≡ min 4294967295 n
 held_all n a b c p q s = omega arith
 
-module _ {K : Type 0} (kind : Kind K) (labels ways codes places : ℕ) (n capacity : ℕ) (ts ts' : List (Turn K)) (r : Option Refusal) (e : EstimatorChoice) where
+module _ {K : Type 0} (kind : Kind K) (labels ways codes places : ℕ) (n capacity : ℕ) (ts ts' : List (Turn K)) (r : Result (Unit {0}) Refusal) (e : EstimatorChoice) where
   pub by_silent : e ≡ Silent → TriedBy kind (λ _. Silence kind) (desk labels ways codes (λ _ _. true)) n capacity ts ts' r → TriedBy kind (makes_of kind e) (desk_for labels ways codes e places) n capacity ts ts' r
   by_silent is h = subst (λ x. TriedBy kind (makes_of kind x) (desk_for labels ways codes x places) n capacity ts ts' r) (sym is) h
 
@@ -40,8 +41,14 @@ module _ {K : Type 0} (kind : Kind K) (labels ways codes places : ℕ) (n capaci
       (subst (λ x. TriedBy kind (makes_of kind e) (desk_for labels x codes' e places') n capacity ts ts' r) q
       (subst (λ x. TriedBy kind (makes_of kind e) (desk_for x ways' codes' e places') n capacity ts ts' r) p h)))
 
+-- the queue that was chosen, by how many codes it has
+pub chosen : {K E : Type 0} (kind : Kind K) (tools : Tools) (labels places n capacity : ℕ) (ts ts' : List (Turn K)) (r : Result (Result (Unit {0}) Refusal) E) (codes : ℕ) → codes ≡ queue_room tools.queue labels
+    → IfOk r (λ made. TriedBy kind (makes_of kind tools.estimator) (desk_for labels labels codes tools.estimator places) n capacity ts ts' made) → IfOk r (λ made. Tried kind tools labels places n capacity ts ts' made)
+chosen kind tools labels places n capacity ts ts' r codes is h =
+    subst (λ x. IfOk r (λ made. TriedBy kind (makes_of kind tools.estimator) (desk_for labels labels x tools.estimator places) n capacity ts ts' made)) is h
+
 -- what was tried, by equal numbers and turns
-pub moved : {K : Type 0} (kind : Kind K) (tools : Tools) (n : ℕ) (refused : Option Refusal) (labels labels' places places' capacity capacity' : ℕ) (ts us ts' us' : List (Turn K))
+pub moved : {K : Type 0} (kind : Kind K) (tools : Tools) (n : ℕ) (refused : Result (Unit {0}) Refusal) (labels labels' places places' capacity capacity' : ℕ) (ts us ts' us' : List (Turn K))
     → labels ≡ labels' → places ≡ places' → capacity ≡ capacity' → ts ≡ us → ts' ≡ us' → Tried kind tools labels places n capacity ts ts' refused → Tried kind tools labels' places' n capacity' us us' refused
 moved kind tools n refused labels labels' places places' capacity capacity' ts us ts' us' p q s u v h =
     subst (λ x. Tried kind tools labels' places' n capacity' us x refused) v
@@ -49,3 +56,12 @@ moved kind tools n refused labels labels' places places' capacity capacity' ts u
     (subst (λ x. Tried kind tools labels' places' n x ts ts' refused) s
     (subst (λ x. Tried kind tools labels' x n capacity ts ts' refused) q
     (subst (λ x. Tried kind tools x places n capacity ts ts' refused) p h))))
+
+-- what a trial says of its turns, by how the making went: they stand as they are left, or only its refusal does
+pub told : {K V : Type 0} (kind : Kind K) (tools : Tools) (labels places n capacity : ℕ) (ts ts' : List (Turn K)) (items : V → List (Turn K)) (P : Unit {0} → V → Type 0) (made : Result (Unit {0}) Refusal) (r : Result V Refusal)
+    → ((u : Unit {0}) (v : V) → P u v → items v ≡ ts') → MatchResult made (λ u. IsOkAnd r (P u)) (λ why. r ≡ Err why) → Tried kind tools labels places n capacity ts ts' made
+    → MatchResult r (λ v. Tried kind tools labels places n capacity ts (items v) (Ok tt)) (λ why. make_answer K n capacity ≡ Err why)
+told kind tools labels places n capacity ts ts' items P (Ok u) (Ok v) left h t = subst (λ x. Tried kind tools labels places n capacity ts x (Ok tt)) (sym (left u v h)) t
+told kind tools labels places n capacity ts ts' items P (Ok u) (Err why) left h t = absurd h
+told kind tools labels places n capacity ts ts' items P (Err why) (Ok v) left h t = cc
+told {K} kind tools labels places n capacity ts ts' items P (Err why) (Err e) left h t = let same : e ≡ why = cc in subst (λ x. make_answer K n capacity ≡ Err x) (sym same) t.0

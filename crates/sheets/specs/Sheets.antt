@@ -1,5 +1,5 @@
 -- What the calls of a district got. Assumes nothing.
-use Rattle.std.specs.Prelude.{◌≡◌, ℕ, ◌*◌, min, Bool, true, ◌&&◌, List, [], ◌∷◌, ◌++◌, map, Some, None, Ok, Err, vec_items, Option}
+use Rattle.std.specs.Prelude.{◌≡◌, ℕ, ◌*◌, min, Bool, true, ◌&&◌, List, [], ◌∷◌, ◌++◌, map, Some, None, Ok, Err, vec_items, Option, Result, MatchResult}
 use Rattle.network.specs.declared.refusal.Refusal.{Refusal}
 use Rattle.network.specs.Costs.{Kind}
 use Rattle.network.specs.Layouts.{Layout}
@@ -48,14 +48,14 @@ queue_room Row places = places
 queue_room Heap places = min 4294967295 places
 
 -- every call of the turns was tried in its order on a fresh district, or the making was refused and nothing was tried
-abbrev pub TriedBy : {K : Type 0} → Kind K → (Layout K → (ℕ → ℕ → K) → Type 0) → Desk → ℕ → ℕ → List (Turn K) → List (Turn K) → Option Refusal → Type 0
-TriedBy {K} kind makes d n capacity ts ts' None = (m : Model K) × (make_answer K n capacity ≡ Ok m) × Replayed kind makes d m ts ts'
-TriedBy {K} kind makes d n capacity ts ts' (Some why) = (make_answer K n capacity ≡ Err why) × (ts' ≡ ts)
+abbrev pub TriedBy : {K : Type 0} → Kind K → (Layout K → (ℕ → ℕ → K) → Type 0) → Desk → ℕ → ℕ → List (Turn K) → List (Turn K) → Result (Unit {0}) Refusal → Type 0
+TriedBy {K} kind makes d n capacity ts ts' (Ok _) = (m : Model K) × (make_answer K n capacity ≡ Ok m) × Replayed kind makes d m ts ts'
+TriedBy {K} kind makes d n capacity ts ts' (Err why) = (make_answer K n capacity ≡ Err why) × (ts' ≡ ts)
 
 -- the same with tools, and with places for so many labels and distances
-abbrev pub Tried : {K : Type 0} → Kind K → Tools → ℕ → ℕ → ℕ → ℕ → List (Turn K) → List (Turn K) → Option Refusal → Type 0
-Tried kind tools labels places n capacity ts ts' refused =
-    TriedBy kind (makes_of kind tools.estimator) (desk_for labels labels (queue_room tools.queue labels) tools.estimator places) n capacity ts ts' refused
+abbrev pub Tried : {K : Type 0} → Kind K → Tools → ℕ → ℕ → ℕ → ℕ → List (Turn K) → List (Turn K) → Result (Unit {0}) Refusal → Type 0
+Tried kind tools labels places n capacity ts ts' made =
+    TriedBy kind (makes_of kind tools.estimator) (desk_for labels labels (queue_room tools.queue labels) tools.estimator places) n capacity ts ts' made
 
 -- a fresh sheet asks for nothing
 pub record Fresh {K : Type 0} (n most : ℕ) (s : Sheet K) : Type 0 where
@@ -106,4 +106,6 @@ pub record SheetTried {K : Type 0} (kind : Kind K) (s : Sheet K) (tools : Tools)
   pub with_tools : t.tools ≡ tools
   pub asked : List (Turn K)
   pub each : map shape asked ≡ map (asked_of tools) (vec_items s.requests)
-  pub tried : Tried kind tools (labels_for (min s.junctions 1024) (vec_items s.requests)) (min s.junctions 1024 * 12) s.junctions (min s.capacity 4097) asked (vec_items t.turns) t.refused
+  pub tried : MatchResult t.turns
+      (λ turns. Tried kind tools (labels_for (min s.junctions 1024) (vec_items s.requests)) (min s.junctions 1024 * 12) s.junctions (min s.capacity 4097) asked (vec_items turns) (Ok tt))
+      (λ why. make_answer K s.junctions (min s.capacity 4097) ≡ Err why)

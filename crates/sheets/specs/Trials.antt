@@ -1,5 +1,6 @@
 -- The calls of a sheet, tried with each pair of tools that its plans name. Assumes nothing.
-use Rattle.std.specs.Prelude.{◌≡◌, Bool, true, false, ◌||◌, List, [], ◌∷◌, Some, None, vec_items, Option}
+use Rattle.std.specs.Prelude.{◌≡◌, Bool, true, false, List, [], ◌∷◌, Some, None, vec_items, Option}
+use Rattle.std.specs.List.{list_any}
 use Rattle.network.specs.Costs.{Kind}
 use Rattle.commands.specs.declared.command.QueueChoice.{QueueChoice}
 use Rattle.commands.specs.declared.command.EstimatorChoice.{EstimatorChoice}
@@ -17,8 +18,7 @@ names tools (Some named) = same_tools named tools
 
 -- whether some plan names these tools
 abbrev pub named_in : {K : Type 0} → Tools → List (Request K) → Bool
-named_in tools [] = false
-named_in tools (r ∷ rs) = names tools r.tools || named_in tools rs
+named_in tools rs = list_any (λ r. names tools r.tools) rs
 
 -- each is what the calls of the sheet got with its tools
 abbrev pub EachTried : {K : Type 0} → Kind K → Sheet K → List (Trial K) → Type 0

@@ -4,7 +4,7 @@ ghost use Rattle.requests.specs.Requests.{request_of};
 ghost use Rattle.sheets.specs.Sheets.{Fresh, Noted, other_entry, entry_of, SheetTried};
 ghost use Rattle.sheets.specs.declared.sheet.Entry.TheVariants.{NotUnderstood};
 
-use crate::tries::try_turns;
+use crate::tries::{Room, try_turns};
 use commands::Call;
 use network::{Cost, Refusal};
 use replay::Turn;
@@ -39,8 +39,7 @@ pub struct Sheet<K> {
 #[derive(Drop)]
 pub struct Trial<K> {
     pub tools: Tools,
-    pub refused: Option<Refusal>,
-    pub turns: Vec<Turn<K>>,
+    pub turns: Result<Vec<Turn<K>>, Refusal>,
 }
 
 impl<K: Cost + Figured> Sheet<K> {
@@ -105,22 +104,14 @@ impl<K: Cost + Figured> Sheet<K> {
         ensures { IfOk result (λ t. SheetTried K.Cost.kind self.now tools t) }
     {
         let mut turns = turns_for(heap, &self.requests, tools)?;
-        let junctions = self.junctions.min(MOST_JUNCTIONS) as usize;
-        let labels = labels_for(self.junctions, &self.requests);
-        let places = self.places();
-        let refused = try_turns(
-            heap,
-            self.junctions,
-            places,
-            &mut turns,
-            labels,
-            junctions * DISTANCES,
-            tools,
-        )?;
+        let room = Room {
+            labels: labels_for(self.junctions, &self.requests),
+            distances: self.junctions.min(MOST_JUNCTIONS) as usize * DISTANCES,
+        };
+        let made = try_turns(heap, self.junctions, self.places(), &mut turns, room, tools)?;
         Ok(Trial {
             tools,
-            refused,
-            turns,
+            turns: made.map(|()| turns),
         })
     }
 }

@@ -1,6 +1,6 @@
 // The calls of a sheet, tried with each pair of tools that its plans name.
 ghost use Rattle.std.specs.Prelude.{◌≡◌, true, IfOk, MatchOption, OnOk};
-ghost use Rattle.sheets.specs.Trials.{names, named_in, Added, GrownBy, GrownFor, Named, Trials, reporting, NoneReports};
+ghost use Rattle.sheets.specs.Trials.{named_in, Added, GrownBy, GrownFor, Named, Trials, reporting, NoneReports};
 
 use crate::sheet::{Sheet, Trial};
 use commands::{EstimatorChoice, QueueChoice};
@@ -8,25 +8,11 @@ use network::Cost;
 use requests::{Figured, Request, Tools};
 use std::alloc::{AllocError, Global};
 
-fn names(named: Option<Tools>, tools: Tools) -> bool
-    ensures { result ≡ names tools named }
-{
-    match named {
-        None => false,
-        Some(named) => named.is_same(tools),
-    }
-}
-
 // Whether a plan names these tools.
 fn is_named<K: Cost>(requests: &[Request<K>], tools: Tools) -> bool
     ensures { result ≡ named_in tools requests.now }
 {
-    for request in requests {
-        if names(request.tools, tools) {
-            return true;
-        }
-    }
-    false
+    requests.iter().any(|request| request.tools == Some(tools))
 }
 
 // What the calls got with these tools, beside what they got with others.
@@ -68,21 +54,14 @@ fn add_queue<K: Cost + Figured>(
 ) -> Result<(), AllocError>
     ensures { OnOk result (GrownFor K.Cost.kind sheet.now queue trials.old.items trials.new.items) }
 {
-    let silent = Tools {
-        queue,
-        estimator: EstimatorChoice::Silent,
-    };
-    let farthest = Tools {
-        queue,
-        estimator: EstimatorChoice::Farthest,
-    };
-    let larger = Tools {
-        queue,
-        estimator: EstimatorChoice::Larger,
-    };
-    add_named(heap, sheet, silent, trials)?;
-    add_named(heap, sheet, farthest, trials)?;
-    add_named(heap, sheet, larger, trials)
+    for estimator in [
+        EstimatorChoice::Silent,
+        EstimatorChoice::Farthest,
+        EstimatorChoice::Larger,
+    ] {
+        add_named(heap, sheet, Tools { queue, estimator }, trials)?;
+    }
+    Ok(())
 }
 
 // The trials with all tools that plans name.
@@ -113,23 +92,11 @@ pub fn try_sheet<K: Cost + Figured>(
     Ok(trials)
 }
 
-fn reports(tools: Option<Tools>, tried: Tools) -> bool
-    ensures { result ≡ reporting tools tried }
-{
-    match tools {
-        None => true,
-        Some(named) => named.is_same(tried),
-    }
-}
-
 // Where to find what a call got: a plan by its own tools, any other call by whichever.
 pub fn find_trial<K: Cost>(trials: &[Trial<K>], tools: Option<Tools>) -> Option<&Trial<K>>
     ensures { MatchOption result (NoneReports tools trials.now) (λ t. reporting tools t.now.tools ≡ true) }
 {
-    for trial in trials {
-        if reports(tools, trial.tools) {
-            return Some(trial);
-        }
-    }
-    None
+    trials
+        .iter()
+        .find(|trial| tools.is_none_or(|named| named == trial.tools))
 }

@@ -1,4 +1,5 @@
-// What a line can say.
+// What a line can say to `duct`. The commands of `morning` are a type of their own: taken from it, these
+// would have calls and choices that no line of `duct` reaches and that it would have to answer.
 
 #[derive(Clone, Copy, PartialEq, Eq, Debug)]
 pub enum Command {

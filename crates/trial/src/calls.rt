@@ -5,54 +5,61 @@ use crate::fault::{Fault, Wrong};
 use crate::ways::Asked;
 use oracle::kind::Kind;
 use oracle::record::Record;
+use oracle::said::Said;
 use replay::{Allowance, Call};
 use std::alloc::Global;
 
-// A run by its ends and cost.
-type Priced = (u64, u64, u64);
+// A run by its ends and what it costs in money.
+#[derive(Clone, Copy)]
+pub struct Priced {
+    pub a: u64,
+    pub b: u64,
+    pub money: u64,
+}
 
 // Four junctions, where the crossing 3 joins the outlets 0, 1 and 2.
-pub const STAR: [Priced; 5] = [(0, 3, 2), (1, 3, 2), (2, 3, 2), (0, 1, 3), (1, 2, 5)];
+pub const STAR: [Priced; 5] = [Priced { a: 0, b: 3, money: 2 }, Priced { a: 1, b: 3, money: 2 }, Priced { a: 2, b: 3, money: 2 }, Priced { a: 0, b: 1, money: 3 }, Priced { a: 1, b: 2, money: 5 }];
 
 // Four junctions with two ways from 1 to 0.
-pub const RING: [Priced; 4] = [(1, 2, 1), (2, 0, 10), (1, 3, 3), (3, 0, 3)];
+pub const RING: [Priced; 4] = [Priced { a: 1, b: 2, money: 1 }, Priced { a: 2, b: 0, money: 10 }, Priced { a: 1, b: 3, money: 3 }, Priced { a: 3, b: 0, money: 3 }];
 
 // Seven junctions, each two with a run of one or two.
 pub const SEVEN: [Priced; 21] = [
-    (0, 1, 2),
-    (0, 2, 2),
-    (0, 3, 2),
-    (0, 4, 1),
-    (0, 5, 1),
-    (0, 6, 2),
-    (1, 2, 2),
-    (1, 3, 2),
-    (1, 4, 2),
-    (1, 5, 1),
-    (1, 6, 2),
-    (2, 3, 2),
-    (2, 4, 2),
-    (2, 5, 2),
-    (2, 6, 1),
-    (3, 4, 1),
-    (3, 5, 2),
-    (3, 6, 1),
-    (4, 5, 2),
-    (4, 6, 1),
-    (5, 6, 1),
+    Priced { a: 0, b: 1, money: 2 },
+    Priced { a: 0, b: 2, money: 2 },
+    Priced { a: 0, b: 3, money: 2 },
+    Priced { a: 0, b: 4, money: 1 },
+    Priced { a: 0, b: 5, money: 1 },
+    Priced { a: 0, b: 6, money: 2 },
+    Priced { a: 1, b: 2, money: 2 },
+    Priced { a: 1, b: 3, money: 2 },
+    Priced { a: 1, b: 4, money: 2 },
+    Priced { a: 1, b: 5, money: 1 },
+    Priced { a: 1, b: 6, money: 2 },
+    Priced { a: 2, b: 3, money: 2 },
+    Priced { a: 2, b: 4, money: 2 },
+    Priced { a: 2, b: 5, money: 2 },
+    Priced { a: 2, b: 6, money: 1 },
+    Priced { a: 3, b: 4, money: 1 },
+    Priced { a: 3, b: 5, money: 2 },
+    Priced { a: 3, b: 6, money: 1 },
+    Priced { a: 4, b: 5, money: 2 },
+    Priced { a: 4, b: 6, money: 1 },
+    Priced { a: 5, b: 6, money: 1 },
 ];
 
-// The number of the question that a call fails, or 0, and then it is noted. A plan changes nothing.
-pub fn take<K: Kind>(record: &mut Record<K>, call: Call<K>) -> Result<u8, Fault> {
-    match call {
-        Call::Lay { a, b, cost } => Ok(record.lay(a, b, cost)?),
-        Call::Reprice { run, cost } => Ok(record.reprice(run, cost)),
-        Call::Close { run } => Ok(record.turn(run, false)),
-        Call::Open { run } => Ok(record.turn(run, true)),
-        Call::Mark { junction } => Ok(record.mark(junction)),
-        Call::Unmark { junction } => Ok(record.unmark(junction)),
-        Call::Plan(_) => Ok(0),
-    }
+// What a call must say, which is noted where it is taken; a plan changes nothing, and what it must say is not told.
+pub fn take<K: Kind>(record: &mut Record<K>, call: Call<K>) -> Result<Option<Said>, Fault> {
+    let said = match call {
+        Call::Lay { a, b, cost } => record.lay(a, b, cost)?.into(),
+        Call::Reprice { run, cost } => record.reprice(run, cost).into(),
+        Call::Close { run } => record.turn(run, false).into(),
+        Call::Open { run } => record.turn(run, true).into(),
+        Call::Mark { junction } => record.mark(junction).into(),
+        Call::Unmark { junction } => record.unmark(junction).into(),
+        Call::Plan(_) => return Ok(None),
+    };
+    Ok(Some(said))
 }
 
 // A plan within so many turns.
@@ -91,10 +98,9 @@ pub fn ask_runs<K: Kind>(
     runs: &[Priced],
     crossed: usize,
 ) -> Result<(), Fault> {
-    for (i, (a, b, money)) in runs.iter().enumerate() {
-        let a = *a;
-        let b = *b;
-        let cost = K::of(if i < crossed { 1 } else { 0 }, *money);
+    for (i, run) in runs.iter().enumerate() {
+        let Priced { a, b, money } = *run;
+        let cost = K::of(u64::from(i < crossed), money);
         ask(asked, Call::Lay { a, b, cost })?;
     }
     Ok(())
@@ -128,7 +134,7 @@ pub fn recorded<K: Kind>(
 ) -> Result<Record<K>, Fault> {
     let mut record = Record::new(heap, junctions, asked.len());
     for one in asked {
-        if take(&mut record, one.call)? > 0 {
+        if let Some(Said::Refused(_)) = take(&mut record, one.call)? {
             return Err(Fault::Wrong(Wrong::ACallThatIsTaken));
         }
     }

@@ -1,7 +1,7 @@
 // The worked examples, and the numbers at the edges of the questions.
 ghost use Rattle.std.specs.Prelude.{◌≡◌};
 
-use crate::calls::{RING, SEVEN, STAR, ask, ask_marks, ask_runs, laid_out, plan_in, plan_within};
+use crate::calls::{Priced, RING, SEVEN, STAR, ask, ask_marks, ask_runs, laid_out, plan_in, plan_within};
 use crate::direct::examine_record;
 use crate::fault::{Fault, Wrong, hold};
 use crate::judge::judge;
@@ -9,39 +9,56 @@ use crate::tally::Tally;
 use crate::ways::{Asked, Outcome, Sequence, every_way};
 use network::{CrossingsFirst, Money};
 use oracle::kind::Kind;
-use oracle::said::{Said, only};
+use oracle::record::Fails;
+use oracle::said::{Figure, Said};
 use plain::read_answer;
 use replay::Call;
 use std::alloc::Global;
 
-// A count that the example does not tell.
-const ANY: u32 = u32::MAX;
+// A call by its number, and what it must say with silence and with the bounds of the farthest outlet.
+#[derive(Clone, Copy)]
+struct Case {
+    call: usize,
+    silent: Said,
+    far: Said,
+}
 
-// The number of a call, and what it must say with silence and with the bounds of the farthest outlet.
-type Case = (usize, Said, Said);
-
-// A plan that is found, or stopped with a floor.
-fn found(number: u8, count: u32, money: u64, runs: usize) -> Said
-    ensures { result ≡ record { number = number; count = count; crossings = 0; money = money; runs = runs } }
+// A call that must say the same with all bounds.
+fn always(call: usize, said: Said) -> Case
+    ensures { result ≡ record { call = call; silent = said; far = said } }
 {
-    Said {
-        number,
-        count,
-        crossings: 0,
-        money,
-        runs,
+    Case {
+        call,
+        silent: said,
+        far: said,
     }
 }
 
-// What one way said at a call is what it must say.
-fn judge_case<K: Kind>(outcome: &Outcome<K>, call: usize, must: Said) -> Result<(), Fault> {
-    let Some(turn) = outcome.turns.get(call) else {
-        return Err(Fault::Wrong(Wrong::ATurnIsMissing));
-    };
-    let mut said = read_answer(&turn.answer, &turn.row);
-    if must.count == ANY {
-        said.count = ANY;
+// Money.
+fn euros(money: u64) -> Figure
+    ensures { result ≡ record { crossings = 0; money = money } }
+{
+    Figure {
+        crossings: 0,
+        money,
     }
+}
+
+// A plan that is found.
+fn found(turns: u32, money: u64, runs: usize) -> Said {
+    Said::Planned(turns, euros(money), runs)
+}
+
+// A plan that is stopped with a floor.
+fn stopped(turns: u32, floor: u64) -> Said {
+    Said::Stopped(turns, euros(floor))
+}
+
+// What one way said at a call is what it must say.
+fn judge_case<K: Kind>(outcome: &Outcome<K>, case: Case) -> Result<(), Fault> {
+    let turn = outcome.turns.get(case.call).ok_or(Wrong::ATurnIsMissing)?;
+    let said = read_answer(&turn.answer, &turn.row);
+    let must = if outcome.far { case.far } else { case.silent };
     hold(said == must, Wrong::AWorkedExample)
 }
 
@@ -55,11 +72,11 @@ fn scripted<K: Kind>(
     tally.sequence = tally.sequence.saturating_add(1);
     let outcomes = every_way(heap, sequence)?;
     let record = judge(heap, sequence, &outcomes, tally)?;
-    for (call, silent, far) in cases {
-        tally.call = *call;
+    for case in cases {
+        tally.call = case.call;
         for (way, outcome) in outcomes.iter().enumerate() {
             tally.way = way;
-            judge_case(outcome, *call, if way < 2 { *silent } else { *far })?;
+            judge_case(outcome, *case)?;
         }
     }
     examine_record(heap, &record, tally)
@@ -80,15 +97,31 @@ fn star(heap: Global, tally: &mut Tally) -> Result<(), Fault> {
     ask(&mut asked, Call::Close { run: 0 })?;
     ask(&mut asked, Call::Close { run: 3 })?;
     ask(&mut asked, plan_within(9))?;
-    let best = found(0, 6, 6, 7);
+    let best = found(6, 6, 7);
     let cases = [
-        (5, only(13), only(13)),
-        (7, only(0), only(0)),
-        (10, found(0, 12, 6, 7), best),
-        (11, found(19, 11, 6, 0), best),
-        (12, found(19, 4, 3, 0), found(19, 4, 6, 0)),
-        (13, found(19, 0, 0, 0), found(19, 0, 4, 0)),
-        (16, found(18, 9, 0, 0), found(18, 9, 0, 0)),
+        always(5, Said::Refused(Fails::NoOutlet)),
+        always(7, found(0, 0, 0)),
+        Case {
+            call: 10,
+            silent: found(12, 6, 7),
+            far: best,
+        },
+        Case {
+            call: 11,
+            silent: stopped(11, 6),
+            far: best,
+        },
+        Case {
+            call: 12,
+            silent: stopped(4, 3),
+            far: stopped(4, 6),
+        },
+        Case {
+            call: 13,
+            silent: stopped(0, 0),
+            far: stopped(0, 4),
+        },
+        always(16, Said::Unjoined(9)),
     ];
     let sequence = Sequence {
         junctions: 4,
@@ -123,13 +156,22 @@ fn star_in(
 
 // The star at the edges of questions 14 to 17.
 fn star_rooms(heap: Global, tally: &mut Tally) -> Result<(), Fault> {
-    let labels = (8, only(14), only(14));
-    let codes = (9, only(15), only(15));
-    let best = found(0, 12, 6, 7);
-    let far = found(0, 6, 6, 7);
-    star_in(heap, 48, 5, &[labels, codes, (10, best, far)], tally)?;
-    star_in(heap, 47, 5, &[(10, best, only(16))], tally)?;
-    star_in(heap, 48, 4, &[(10, only(17), only(17))], tally)
+    let labels = always(8, Said::Refused(Fails::LabelMemory));
+    let codes = always(9, Said::Refused(Fails::QueueCapacity));
+    let best = Case {
+        call: 10,
+        silent: found(12, 6, 7),
+        far: found(6, 6, 7),
+    };
+    let unfit = Case {
+        call: 10,
+        silent: found(12, 6, 7),
+        far: Said::Refused(Fails::EstimatorFit),
+    };
+    let short = always(10, Said::Refused(Fails::AnswerRow));
+    star_in(heap, 48, 5, &[labels, codes, best], tally)?;
+    star_in(heap, 47, 5, &[unfit], tally)?;
+    star_in(heap, 48, 4, &[short], tally)
 }
 
 // The ring, before and after one run is repriced.
@@ -140,8 +182,12 @@ fn ring(heap: Global, tally: &mut Tally) -> Result<(), Fault> {
     ask(&mut asked, Call::Reprice { run: 1, cost })?;
     ask(&mut asked, plan_within(4))?;
     let cases = [
-        (6, found(0, 4, 6, 12), found(0, 3, 6, 12)),
-        (8, found(0, 3, 2, 3), found(0, 3, 2, 3)),
+        Case {
+            call: 6,
+            silent: found(4, 6, 12),
+            far: found(3, 6, 12),
+        },
+        always(8, found(3, 2, 3)),
     ];
     let sequence = Sequence {
         junctions: 4,
@@ -158,14 +204,18 @@ fn crossed_star(heap: Global, tally: &mut Tally) -> Result<(), Fault> {
     ask_runs::<CrossingsFirst>(&mut asked, &STAR, 3)?;
     ask_marks(&mut asked, 3)?;
     ask(&mut asked, plan_within(12))?;
-    let best = found(0, ANY, 8, 24);
+    let best = Case {
+        call: 8,
+        silent: found(9, 8, 24),
+        far: found(5, 8, 24),
+    };
     let sequence = Sequence {
         junctions: 4,
         capacity: 5,
         distances: 48,
         asked,
     };
-    scripted(heap, &sequence, &[(8, best, best)], tally)
+    scripted(heap, &sequence, &[best], tally)
 }
 
 // Seven junctions, four of them outlets, which five of money join.
@@ -182,9 +232,9 @@ fn seven(heap: Global, tally: &mut Tally) -> Result<(), Fault> {
     scripted(heap, &sequence, &[], tally)?;
     for outcome in every_way(heap, &sequence)?.iter() {
         if let Some(turn) = outcome.turns.last() {
-            let said = read_answer(&turn.answer, &turn.row);
+            let cost = read_answer(&turn.answer, &turn.row).cost::<Money>();
             hold(
-                said.number == 0 && said.money == 5,
+                cost.is_some_and(|cost| cost.amount == 5),
                 Wrong::TheSevenJunctions,
             )?;
         }
@@ -195,21 +245,21 @@ fn seven(heap: Global, tally: &mut Tally) -> Result<(), Fault> {
 // Costs and marks at the edges of their questions.
 fn edges(heap: Global, tally: &mut Tally) -> Result<(), Fault> {
     let runs = [
-        (0, 1, 0),
-        (0, 1, 1_000_000),
-        (0, 1, 1_000_001),
-        (0, 13, 1),
-        (2, 2, 1),
+        Priced { a: 0, b: 1, money: 0 },
+        Priced { a: 0, b: 1, money: 1_000_000 },
+        Priced { a: 0, b: 1, money: 1_000_001 },
+        Priced { a: 0, b: 13, money: 1 },
+        Priced { a: 2, b: 2, money: 1 },
     ];
     let asked = laid_out::<Money>(heap, &runs, 13)?;
     let cases = [
-        (0, only(5), only(5)),
-        (1, only(0), only(0)),
-        (2, only(6), only(6)),
-        (3, only(3), only(3)),
-        (4, only(4), only(4)),
-        (16, only(0), only(0)),
-        (17, only(11), only(11)),
+        always(0, Said::Refused(Fails::NoCost)),
+        always(1, Said::Laid(0)),
+        always(2, Said::Refused(Fails::TooBulky)),
+        always(3, Said::Refused(Fails::NotAJunction)),
+        always(4, Said::Refused(Fails::SameEnds)),
+        always(16, Said::Done),
+        always(17, Said::Refused(Fails::OutletsFull)),
     ];
     let sequence = Sequence {
         junctions: 13,
@@ -220,12 +270,12 @@ fn edges(heap: Global, tally: &mut Tally) -> Result<(), Fault> {
     scripted(heap, &sequence, &cases, tally)
 }
 
-// The making of a district of so many junctions and places for runs answers with this number in every way.
-fn making(
+// The making of a district of so many junctions and places for runs answers this in every way.
+fn edge_making(
     heap: Global,
     junctions: u64,
     capacity: usize,
-    number: u8,
+    making: Result<(), Fails>,
     tally: &mut Tally,
 ) -> Result<(), Fault> {
     let asked: Vec<Asked<Money>> = Vec::new(heap);
@@ -236,7 +286,7 @@ fn making(
         asked,
     };
     for outcome in every_way(heap, &sequence)?.iter() {
-        hold(outcome.making == number, Wrong::AMakingAtTheEdge)?;
+        hold(outcome.making == making, Wrong::AMakingAtTheEdge)?;
     }
     scripted(heap, &sequence, &[], tally)
 }
@@ -248,8 +298,8 @@ pub fn all_cases(heap: Global, tally: &mut Tally) -> Result<(), Fault> {
     crossed_star(heap, tally)?;
     seven(heap, tally)?;
     edges(heap, tally)?;
-    making(heap, 1024, 4096, 0, tally)?;
-    making(heap, 1025, 1, 1, tally)?;
-    making(heap, 0, 1, 1, tally)?;
-    making(heap, 1, 4097, 2, tally)
+    edge_making(heap, 1024, 4096, Ok(()), tally)?;
+    edge_making(heap, 1025, 1, Err(Fails::JunctionCount), tally)?;
+    edge_making(heap, 0, 1, Err(Fails::JunctionCount), tally)?;
+    edge_making(heap, 1, 4097, Err(Fails::RunCapacity), tally)
 }

@@ -9,12 +9,14 @@ use farthest::Farthest;
 use heap::Heap;
 use labelling::{Label, Way};
 use network::Cost;
-use oracle::costs::{added, alike, at, bit, has, row_of};
+use oracle::costs::{added, alike, at, has};
 use oracle::kind::Kind;
+use oracle::members::members;
 use oracle::record::Record;
 use oracle::said::Said;
 use oracle::subsets::{MOST_JUNCTIONS, MOST_RUNS, all_joined};
-use oracle::survey::{Survey, cell, surveyed};
+use oracle::survey::{Survey, surveyed};
+use oracle::table::Table;
 use oracle::walk::{far_bounds, walked};
 use plain::plan_once;
 use queue::{Queue, Row};
@@ -38,250 +40,235 @@ fn built<K: Kind>(heap: Global, record: &Record<K>) -> Result<District<K>, Fault
             hold(district.close(i as u64).is_ok(), Wrong::ClosingAgain)?;
         }
     }
-    for j in 0..16 {
-        if record.outlets & bit(j) != 0 {
-            hold(district.mark(j as u64).is_ok(), Wrong::MarkingAgain)?;
-        }
+    for j in members(record.outlets) {
+        hold(district.mark(j as u64).is_ok(), Wrong::MarkingAgain)?;
     }
     Ok(district)
 }
 
-// Each settled label costs what the recurrence gives.
-fn judge_labels<K: Kind>(
-    survey: &Survey<K>,
-    table: &[Option<K>],
-    labels: &[Label<K>],
-    ways: &[Way],
-    tally: &mut Tally,
-) -> Result<(), Fault> {
-    for v in 0..survey.junctions {
-        for set in 1..survey.sets {
-            let code = cell(v, survey.sets, set);
-            if code < labels.len() && code < ways.len() && ways[code].turn > 0 {
-                let cost = labels[code].cost;
-                hold(alike(at(table, code), Some(cost)), Wrong::TheCostOfALabel)?;
-                count(&mut tally.labels);
-            }
-        }
-    }
-    Ok(())
-}
-
-// A plan within so many turns; its labels are held against the recurrence.
-fn planned<K: Kind, Q: Queue<Cost = K>, E: Estimator<Cost = K>>(
+// A record, and what its district's plans and bounds are held against.
+#[derive(Drop)]
+struct Examiner<'a, K> {
     heap: Global,
-    view: &View<'_, K>,
-    limit: u32,
-    queue: &mut Q,
-    estimator: &mut E,
-    survey: &Survey<K>,
-    tally: &mut Tally,
-) -> Result<Said, Fault> {
-    let (mut labels, mut ways) = label_rows(heap, LABELS)?;
-    let mut row = row_of(heap, 0u8, view.runs.len())?;
-    let said = plan_once(
-        view,
-        limit,
-        &mut labels,
-        &mut ways,
-        queue,
-        estimator,
-        &mut row,
-    );
-    let table = survey.table(heap)?;
-    judge_labels(survey, &table, &labels, &ways, tally)?;
-    Ok(said)
+    record: &'a Record<K>,
+    survey: Survey<K>,
+    // The recurrence.
+    table: Table<K>,
+    // The least cost of joining each set of junctions, or nothing where there are too many runs.
+    joined: Vec<Option<K>>,
 }
 
-// With as many turns as were taken a plan is the same, and with one less it is stopped, with a floor.
-fn judge_limits<K: Kind, Q: Queue<Cost = K>, E: Estimator<Cost = K>>(
-    heap: Global,
-    view: &View<'_, K>,
-    said: Said,
-    queue: &mut Q,
-    estimator: &mut E,
-    survey: &Survey<K>,
-    tally: &mut Tally,
-) -> Result<(), Fault> {
-    let again = planned(heap, view, said.count, queue, estimator, survey, tally)?;
-    hold(again == said, Wrong::TheSamePlanAtItsOwnLimit)?;
-    if said.count > 0 {
-        let less = planned(heap, view, said.count - 1, queue, estimator, survey, tally)?;
-        hold(
-            less.number == 19 && less.count == said.count - 1,
-            Wrong::OneTurnLess,
-        )?;
-        let floor = K::of(less.crossings, less.money);
-        let cost = K::of(said.crossings, said.money);
-        hold(
-            said.number == 18 || !cost.is_below(floor),
-            Wrong::TheFloorOfOneTurnLess,
-        )?;
+impl<'a, K: Kind> Examiner<'a, K> {
+    fn new(heap: Global, record: &'a Record<K>) -> Result<Examiner<'a, K>, Fault> {
+        let survey = surveyed(heap, record)?;
+        let table = survey.table(heap)?;
+        let joined = if record.runs.len() <= MOST_RUNS {
+            all_joined(heap, &record.runs)?
+        } else {
+            Vec::new(heap)
+        };
+        Ok(Examiner {
+            heap,
+            record,
+            survey,
+            table,
+            joined,
+        })
     }
-    count(&mut tally.limits);
-    Ok(())
-}
 
-// A plan with turns enough, beside the trial's own labelling under the same bounds.
-fn examine<K: Kind, Q: Queue<Cost = K>, E: Estimator<Cost = K>>(
-    heap: Global,
-    record: &Record<K>,
-    survey: &Survey<K>,
-    bounds: &[Option<K>],
-    queue: &mut Q,
-    estimator: &mut E,
-    tally: &mut Tally,
-) -> Result<(), Fault> {
-    let district = built(heap, record)?;
-    let view = district.view();
-    let enough = record.turns().min(1_000_000) as u32;
-    let said = planned(heap, &view, enough, queue, estimator, survey, tally)?;
-    let (cost, turns) = walked(heap, survey, &record.runs, bounds, false)?;
-    hold(said.count == turns, Wrong::TheCountOfTurns)?;
-    match cost {
-        None => hold(said.number == 18, Wrong::NoLabelWaits)?,
-        Some(cost) => {
-            let other = K::of(said.crossings, said.money);
-            hold(
-                said.number == 0 && alike(Some(cost), Some(other)),
-                Wrong::TheCostOfAPlan,
-            )?;
-        }
-    }
-    judge_limits(heap, &view, said, queue, estimator, survey, tally)
-}
-
-// The law, at two junctions and for each two sets of which one is within the other.
-fn judge_law_at<E: Estimator>(
-    estimator: &E,
-    survey: &Survey<E::Cost>,
-    joined: &[Option<E::Cost>],
-    v: u16,
-    w: u16,
-    tally: &mut Tally,
-) -> Result<(), Fault> {
-    for whole in 0..MOST_SETS {
-        for part in 0..MOST_SETS {
-            if whole < survey.sets && has(whole, part) {
-                let mask = survey.mask(v as usize, w as usize, whole ^ part);
-                let near = estimator.estimate(v, part as u16);
-                let far = added(Some(estimator.estimate(w, whole as u16)), at(joined, mask));
-                if let Some(far) = far {
-                    hold(!far.is_below(near), Wrong::TheLawOfEstimators)?;
-                    count(&mut tally.laws);
+    // Each settled label costs what the recurrence gives.
+    fn judge_labels(
+        &self,
+        labels: &[Label<K>],
+        ways: &[Way],
+        tally: &mut Tally,
+    ) -> Result<(), Fault> {
+        for v in 0..self.survey.junctions {
+            for set in 1..self.survey.sets {
+                let code = self.survey.code(v, set);
+                if let (Some(label), Some(way)) = (labels.get(code), ways.get(code)) {
+                    if way.turn > 0 {
+                        let cost = Some(label.cost);
+                        hold(alike(self.table.at(v, set), cost), Wrong::TheCostOfALabel)?;
+                        count(&mut tally.labels);
+                    }
                 }
             }
         }
+        Ok(())
     }
-    Ok(())
-}
 
-// The law everywhere, and that the bound of the root with all others is zero.
-fn judge_law<E: Estimator>(
-    estimator: &E,
-    survey: &Survey<E::Cost>,
-    joined: &[Option<E::Cost>],
-    tally: &mut Tally,
-) -> Result<(), Fault> {
-    let root = survey
-        .outlets
-        .first()
-        .copied()
-        .unwrap_or(0)
-        .min(MOST_JUNCTIONS) as u16;
-    let all = survey.sets.saturating_sub(1).min(MOST_SETS) as u16;
-    hold(
-        alike(Some(estimator.estimate(root, all)), Some(E::Cost::zero())),
-        Wrong::TheBoundOfTheRoot,
-    )?;
-    for v in 0..MOST_JUNCTIONS {
-        for w in 0..MOST_JUNCTIONS {
-            if v < survey.junctions && w < survey.junctions {
-                judge_law_at(estimator, survey, joined, v as u16, w as u16, tally)?;
+    // A plan within so many turns; its labels are held against the recurrence.
+    fn planned<Q: Queue<Cost = K>, E: Estimator<Cost = K>>(
+        &self,
+        view: &View<'_, K>,
+        limit: u32,
+        queue: &mut Q,
+        estimator: &mut E,
+        tally: &mut Tally,
+    ) -> Result<Said, Fault> {
+        let (mut labels, mut ways) = label_rows(self.heap, LABELS)?;
+        let mut row = vec![in self.heap; 0u8; view.runs.len()]?;
+        let said = plan_once(
+            view,
+            limit,
+            &mut labels,
+            &mut ways,
+            queue,
+            estimator,
+            &mut row,
+        );
+        self.judge_labels(&labels, &ways, tally)?;
+        Ok(said)
+    }
+
+    // With as many turns as were taken a plan is the same, and with one less it is stopped, with a floor.
+    fn judge_limits<Q: Queue<Cost = K>, E: Estimator<Cost = K>>(
+        &self,
+        view: &View<'_, K>,
+        turns: u32,
+        said: Said,
+        queue: &mut Q,
+        estimator: &mut E,
+        tally: &mut Tally,
+    ) -> Result<(), Fault> {
+        let again = self.planned(view, turns, queue, estimator, tally)?;
+        hold(again == said, Wrong::TheSamePlanAtItsOwnLimit)?;
+        if turns > 0 {
+            let less = self.planned(view, turns - 1, queue, estimator, tally)?;
+            let Said::Stopped(taken, floor) = less else {
+                return Err(Fault::Wrong(Wrong::OneTurnLess));
+            };
+            hold(taken == turns - 1, Wrong::OneTurnLess)?;
+            let found: Option<K> = said.cost();
+            if let Some(cost) = found {
+                hold(!cost.is_below(floor.cost()), Wrong::TheFloorOfOneTurnLess)?;
             }
         }
+        count(&mut tally.limits);
+        Ok(())
     }
-    Ok(())
-}
 
-// Each bound is what it says.
-fn judge_bounds<E: Estimator>(
-    estimator: &E,
-    survey: &Survey<E::Cost>,
-    bounds: &[Option<E::Cost>],
-    tally: &mut Tally,
-) -> Result<(), Fault> {
-    for v in 0..MOST_JUNCTIONS {
-        for set in 0..MOST_SETS {
-            if v < survey.junctions && set < survey.sets {
+    // A plan with turns enough, beside the trial's own labelling under the same bounds.
+    fn judge_plans<Q: Queue<Cost = K>, E: Estimator<Cost = K>>(
+        &self,
+        bounds: &Table<K>,
+        queue: &mut Q,
+        estimator: &mut E,
+        tally: &mut Tally,
+    ) -> Result<(), Fault> {
+        let district = built(self.heap, self.record)?;
+        let view = district.view();
+        let enough = self.record.turns().min(1_000_000) as u32;
+        let said = self.planned(&view, enough, queue, estimator, tally)?;
+        let runs = &self.record.runs;
+        let (cost, turns) = walked(self.heap, &self.survey, runs, bounds, |goal| goal.settled)?;
+        hold(said.turns() == Some(turns), Wrong::TheCountOfTurns)?;
+        if cost.is_none() {
+            hold(said == Said::Unjoined(turns), Wrong::NoLabelWaits)?;
+        } else {
+            hold(alike(cost, said.cost()), Wrong::TheCostOfAPlan)?;
+        }
+        self.judge_limits(&view, turns, said, queue, estimator, tally)
+    }
+
+    // The law, at two junctions and for each two sets of which one is within the other.
+    fn judge_law_at<E: Estimator<Cost = K>>(
+        &self,
+        estimator: &E,
+        v: u16,
+        w: u16,
+        tally: &mut Tally,
+    ) -> Result<(), Fault> {
+        for whole in 0..self.survey.sets.min(MOST_SETS) {
+            for part in 0..whole + 1 {
+                if has(whole, part) {
+                    let mask = self.survey.mask(v as usize, w as usize, whole ^ part);
+                    let near = estimator.estimate(v, part as u16);
+                    let far = Some(estimator.estimate(w, whole as u16));
+                    if let Some(far) = added(far, at(&self.joined, mask)) {
+                        hold(!far.is_below(near), Wrong::TheLawOfEstimators)?;
+                        count(&mut tally.laws);
+                    }
+                }
+            }
+        }
+        Ok(())
+    }
+
+    // The law everywhere, and that the bound of the root with all others is zero.
+    fn judge_law<E: Estimator<Cost = K>>(
+        &self,
+        estimator: &E,
+        tally: &mut Tally,
+    ) -> Result<(), Fault> {
+        let root = self.survey.root().min(MOST_JUNCTIONS) as u16;
+        let all = self.survey.all().min(MOST_SETS) as u16;
+        hold(
+            alike(Some(estimator.estimate(root, all)), Some(K::zero())),
+            Wrong::TheBoundOfTheRoot,
+        )?;
+        for v in 0..self.survey.junctions.min(MOST_JUNCTIONS) {
+            for w in 0..self.survey.junctions.min(MOST_JUNCTIONS) {
+                self.judge_law_at(estimator, v as u16, w as u16, tally)?;
+            }
+        }
+        Ok(())
+    }
+
+    // Each bound is what it says.
+    fn judge_bounds<E: Estimator<Cost = K>>(
+        &self,
+        estimator: &E,
+        bounds: &Table<K>,
+        tally: &mut Tally,
+    ) -> Result<(), Fault> {
+        for v in 0..self.survey.junctions.min(MOST_JUNCTIONS) {
+            for set in 0..self.survey.sets.min(MOST_SETS) {
                 let said = Some(estimator.estimate(v as u16, set as u16));
-                hold(
-                    alike(said, at(bounds, cell(v, survey.sets, set))),
-                    Wrong::ABound,
-                )?;
+                hold(alike(said, bounds.at(v, set)), Wrong::ABound)?;
                 count(&mut tally.bounds);
             }
         }
+        Ok(())
     }
-    Ok(())
-}
 
-// Examines a record with a row and silence.
-fn examine_silent<K: Kind>(
-    heap: Global,
-    record: &Record<K>,
-    survey: &Survey<K>,
-    tally: &mut Tally,
-) -> Result<(), Fault> {
-    let bounds = row_of(heap, Some(K::zero()), record.codes())?;
-    let mut waiting = row_of(heap, None, LABELS)?;
-    let mut queue = Row::over(&mut waiting);
-    let mut silent = Silent::new();
-    examine(
-        heap,
-        record,
-        survey,
-        &bounds,
-        &mut queue,
-        &mut silent,
-        tally,
-    )?;
-    judge_bounds(&silent, survey, &bounds, tally)
-}
+    // With a row and silence.
+    fn examine_silent(&self, tally: &mut Tally) -> Result<(), Fault> {
+        let zero = Some(K::zero());
+        let bounds = Table::filled(self.heap, self.survey.junctions, self.survey.sets, zero)?;
+        let mut waiting = vec![in self.heap; None; LABELS]?;
+        let mut queue = Row::over(&mut waiting);
+        let mut silent = Silent::new();
+        self.judge_plans(&bounds, &mut queue, &mut silent, tally)?;
+        self.judge_bounds(&silent, &bounds, tally)
+    }
 
-// Examines a record with a heap and an estimator that goes by the farthest outlet.
-fn examine_with<K: Kind, E: Estimator<Cost = K>>(
-    heap: Global,
-    record: &Record<K>,
-    survey: &Survey<K>,
-    joined: &[Option<K>],
-    estimator: &mut E,
-    tally: &mut Tally,
-) -> Result<(), Fault> {
-    let bounds = far_bounds(heap, survey)?;
-    let mut keys = row_of(heap, K::zero(), LABELS)?;
-    let mut codes = row_of(heap, 1u32, LABELS)?;
-    let mut places = row_of(heap, 2u32, LABELS)?;
-    let mut queue = Heap::over(&mut keys, &mut codes, &mut places);
-    examine(heap, record, survey, &bounds, &mut queue, estimator, tally)?;
-    judge_bounds(&*estimator, survey, &bounds, tally)?;
-    judge_law(&*estimator, survey, joined, tally)
-}
+    // With a heap and an estimator that goes by the farthest outlet.
+    fn examine_with<E: Estimator<Cost = K>>(
+        &self,
+        estimator: &mut E,
+        tally: &mut Tally,
+    ) -> Result<(), Fault> {
+        let bounds = far_bounds(self.heap, &self.survey)?;
+        let mut keys = vec![in self.heap; K::zero(); LABELS]?;
+        let mut codes = vec![in self.heap; 1u32; LABELS]?;
+        let mut places = vec![in self.heap; 2u32; LABELS]?;
+        let mut queue = Heap::over(&mut keys, &mut codes, &mut places);
+        self.judge_plans(&bounds, &mut queue, estimator, tally)?;
+        self.judge_bounds(&*estimator, &bounds, tally)?;
+        self.judge_law(&*estimator, tally)
+    }
 
-// Examines a record with the farthest outlet, and with the larger of that and silence.
-fn examine_far<K: Kind>(
-    heap: Global,
-    record: &Record<K>,
-    survey: &Survey<K>,
-    joined: &[Option<K>],
-    tally: &mut Tally,
-) -> Result<(), Fault> {
-    let mut distances = row_of(heap, None, MOST_JUNCTIONS * 12)?;
-    let mut first = Farthest::over(&mut distances);
-    examine_with(heap, record, survey, joined, &mut first, tally)?;
-    let second = Silent::new();
-    let mut larger = Larger { first, second };
-    examine_with(heap, record, survey, joined, &mut larger, tally)
+    // With the farthest outlet, and with the larger of that and silence.
+    fn examine_far(&self, tally: &mut Tally) -> Result<(), Fault> {
+        let mut distances = vec![in self.heap; None; MOST_JUNCTIONS * 12]?;
+        let mut first = Farthest::over(&mut distances);
+        self.examine_with(&mut first, tally)?;
+        let second = Silent::new();
+        let mut larger = Larger { first, second };
+        self.examine_with(&mut larger, tally)
+    }
 }
 
 // Examines a record that has two outlets or more, and not too many labels. Where it has too many runs to look at
@@ -291,15 +278,10 @@ pub fn examine_record<K: Kind>(
     record: &Record<K>,
     tally: &mut Tally,
 ) -> Result<(), Fault> {
-    if record.make_fails() > 0 || record.sets() < 2 || record.codes() > LABELS {
+    if record.make().is_err() || record.sets() < 2 || record.codes() > LABELS {
         return Ok(());
     }
-    let survey = surveyed(heap, record)?;
-    let joined = if record.runs.len() <= MOST_RUNS {
-        all_joined(heap, &record.runs)?
-    } else {
-        Vec::new(heap)
-    };
-    examine_silent(heap, record, &survey, tally)?;
-    examine_far(heap, record, &survey, &joined, tally)
+    let examiner = Examiner::new(heap, record)?;
+    examiner.examine_silent(tally)?;
+    examiner.examine_far(tally)
 }

@@ -4,48 +4,44 @@ ghost use Rattle.std.specs.Prelude.{◌≡◌, ◌+◌, ◌-◌, ◌^◌, min, m
 use crate::calls::{RING, STAR, ask, laid_out, recorded};
 use crate::fault::{Fault, Wrong, hold};
 use network::Money;
-use oracle::costs::{added, bit, row_of};
+use oracle::costs::{bit, holds};
 use oracle::survey::{Survey, surveyed};
+use oracle::table::Table;
 use oracle::walk::{far_bounds, walked};
 use replay::Call;
 use std::alloc::Global;
 
 // An amount, or 0 where there is none.
 fn amount(cost: Option<Money>) -> u64 {
-    match cost {
-        None => 0,
-        Some(money) => money.amount,
-    }
+    cost.map_or(0, |money| money.amount)
 }
 
 // The least distance from one of the outlets that are joined to one that is not, and which that is.
-fn nearest(survey: &Survey<Money>, joined: usize) -> (usize, Option<Money>) {
-    let mut next = 0;
-    let mut least: Option<Money> = None;
+fn nearest(survey: &Survey<Money>, joined: usize) -> Option<(u64, usize)> {
+    let mut least: Option<(u64, usize)> = None;
     for (i, a) in survey.outlets.iter().enumerate() {
         for (j, b) in survey.outlets.iter().enumerate() {
-            if joined & bit(i) != 0 && joined & bit(j) == 0 {
-                let distance = survey.distance(*a, *b);
-                if least.is_none() || amount(distance) < amount(least) {
-                    next = j;
-                    least = distance;
+            if holds(joined, i) && !holds(joined, j) {
+                if let Some(distance) = survey.distance(*a, *b) {
+                    let next = (distance.amount, j);
+                    least = Some(least.map_or(next, |least| least.min(next)));
                 }
             }
         }
     }
-    (next, least)
+    least
 }
 
-// What a tree costs that joins the outlets two by two, along their distances.
-fn spanning(survey: &Survey<Money>) -> Option<Money> {
+// What a tree costs that joins the outlets two by two, along their distances; none where they cannot be joined.
+fn spanning(survey: &Survey<Money>) -> Option<u64> {
     let mut joined = bit(0);
-    let mut cost = Some(Money { amount: 0 });
+    let mut cost: u64 = 0;
     for _edge in 1..survey.outlets.len() {
-        let (next, least) = nearest(survey, joined);
-        joined = joined | bit(next);
-        cost = added(cost, least);
+        let (amount, next) = nearest(survey, joined)?;
+        joined |= bit(next);
+        cost = cost.saturating_add(amount);
     }
-    cost
+    Some(cost)
 }
 
 // The star: joining its outlets two by two is dearer, and so is ending too soon.
@@ -53,10 +49,14 @@ fn star(rt: &HostRuntime) -> Result<(), Fault> {
     let asked = laid_out::<Money>(rt.alloc(), &STAR, 3)?;
     let record = recorded(rt.alloc(), 4, &asked)?;
     let survey = surveyed(rt.alloc(), &record)?;
-    let bounds = row_of(rt.alloc(), Some(Money { amount: 0 }), record.codes())?;
-    let (right, turns) = walked(rt.alloc(), &survey, &record.runs, &bounds, false)?;
-    let (hasty, _) = walked(rt.alloc(), &survey, &record.runs, &bounds, true)?;
-    let tree = amount(spanning(&survey));
+    let nothing = Some(Money { amount: 0 });
+    let bounds = Table::filled(rt.alloc(), survey.junctions, survey.sets, nothing)?;
+    let runs = &record.runs;
+    let (right, turns) = walked(rt.alloc(), &survey, runs, &bounds, |goal| goal.settled)?;
+    let (hasty, _) = walked(rt.alloc(), &survey, runs, &bounds, |goal| {
+        goal.cost.is_some()
+    })?;
+    let tree = spanning(&survey).unwrap_or(0);
     let right = amount(right);
     let hasty = amount(hasty);
     println!(rt;
@@ -78,16 +78,17 @@ fn ring(rt: &HostRuntime) -> Result<(), Fault> {
     let survey = surveyed(rt.alloc(), &record)?;
     let old = far_bounds(rt.alloc(), &before)?;
     let new = far_bounds(rt.alloc(), &survey)?;
-    let (stale, _) = walked(rt.alloc(), &survey, &record.runs, &old, false)?;
-    let (right, _) = walked(rt.alloc(), &survey, &record.runs, &new, false)?;
+    let runs = &record.runs;
+    let (stale, _) = walked(rt.alloc(), &survey, runs, &old, |goal| goal.settled)?;
+    let (right, _) = walked(rt.alloc(), &survey, runs, &new, |goal| goal.settled)?;
     let stale = amount(stale);
     let right = amount(right);
     println!(rt; "ring, repriced: {right}; {stale} with the distances of before")?;
     hold(right == 2 && stale == 6, Wrong::TheRing)
 }
 
-// A worst road class and money: of two together the class is the worse one.
-#[derive(Clone, Copy)]
+// A worst road class, then money: of two together the class is the worse one.
+#[derive(Clone, Copy, PartialEq, Eq, PartialOrd, Ord)]
 struct Worst {
     class: u64,
     money: u64,
@@ -102,17 +103,13 @@ fn together(a: Worst, b: Worst) -> Worst
     }
 }
 
-fn is_before(a: Worst, b: Worst) -> bool {
-    a.class < b.class || a.class == b.class && a.money < b.money
-}
-
 // The order of two turns when the same is joined to each: this is no kind of cost.
 fn worst_class(rt: &HostRuntime) -> Result<(), Fault> {
     let a = Worst { class: 2, money: 5 };
     let b = Worst { class: 3, money: 1 };
     let c = Worst { class: 3, money: 0 };
-    let first = is_before(a, b);
-    let then = is_before(together(a, c), together(b, c));
+    let first = a < b;
+    let then = together(a, c) < together(b, c);
     println!(rt; "worst class, then money: before {first}, with the same joined to each {then}")?;
     hold(first && !then, Wrong::WorstClassThenMoney)
 }

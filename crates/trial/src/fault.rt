@@ -103,6 +103,12 @@ pub enum Fault {
     Wrong(Wrong),
 }
 
+impl From<Wrong> for Fault {
+    fn from(what: Wrong) -> Fault {
+        Fault::Wrong(what)
+    }
+}
+
 impl From<AllocError> for Fault {
     fn from(_e: AllocError) -> Fault {
         Fault::Memory

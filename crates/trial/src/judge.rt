@@ -3,204 +3,145 @@ use crate::calls::take;
 use crate::fault::{Fault, Wrong, hold};
 use crate::tally::{Tally, count};
 use crate::ways::{LABELS, Outcome, Sequence, UNTOUCHED};
-use network::Cost;
-use oracle::costs::{alike, at, bit, has};
+use oracle::costs::{alike, bit, has};
 use oracle::kind::Kind;
-use oracle::record::Record;
-use oracle::said::{Said, dug, only};
+use oracle::members::members;
+use oracle::record::{Fails, Record, ask};
+use oracle::said::{Said, dug};
 use oracle::subsets::{MOST_RUNS, cost_of, grown, least_joined};
-use oracle::survey::{cell, surveyed};
+use oracle::survey::surveyed;
 use plain::read_answer;
 use replay::{Allowance, Call, Turn};
 use std::alloc::Global;
 
-// The number of the question among 13 to 17 that a plan fails, or 0.
-fn plan_fails<K: Kind>(record: &Record<K>, allowance: Allowance, row: usize, fits: bool) -> u8 {
-    if record.outlets == 0 {
-        13
-    } else if allowance.labels.min(LABELS) < record.codes() {
-        14
-    } else if allowance.codes.min(LABELS) < record.codes() {
-        15
-    } else if !fits {
-        16
-    } else if row < record.runs.len() {
-        17
-    } else {
-        0
-    }
+// What a turn is held against.
+#[derive(Drop)]
+struct Standard<'a, K> {
+    // The district at hand.
+    record: &'a Record<K>,
+    // What the call must say; none where it is a plan.
+    must: Option<Said>,
+    // The least cost of joining all outlets, where the call is a plan.
+    least: Option<K>,
 }
 
-// The row marks open runs that join all outlets for this cost, and is left alone beyond the runs.
-fn judge_row<K: Kind>(record: &Record<K>, cost: K, row: &[u8]) -> Result<(), Fault> {
-    for (i, mark) in row.iter().enumerate() {
-        if i < record.runs.len() {
-            hold(*mark < 2, Wrong::AByteOfTheRow)?;
-        } else {
-            hold(*mark == UNTOUCHED, Wrong::AByteBeyondTheRuns)?;
+impl<K: Kind> Standard<'_, K> {
+    // The questions 13 to 17 of a plan.
+    fn ask_plan(&self, allowance: Allowance, row: usize, fits: bool) -> Result<(), Fails> {
+        let codes = self.record.codes();
+        ask(self.record.outlets != 0, Fails::NoOutlet)?;
+        ask(codes <= allowance.labels.min(LABELS), Fails::LabelMemory)?;
+        ask(codes <= allowance.codes.min(LABELS), Fails::QueueCapacity)?;
+        ask(fits, Fails::EstimatorFit)?;
+        ask(self.record.runs.len() <= row, Fails::AnswerRow)
+    }
+
+    // The row marks open runs that join all outlets for this cost, and is left alone beyond the runs.
+    fn judge_row(&self, cost: Option<K>, row: &[u8]) -> Result<(), Fault> {
+        let runs = &self.record.runs;
+        for (i, mark) in row.iter().enumerate() {
+            if i < runs.len() {
+                hold(*mark < 2, Wrong::AByteOfTheRow)?;
+            } else {
+                hold(*mark == UNTOUCHED, Wrong::AByteBeyondTheRuns)?;
+            }
+        }
+        let set = dug(row);
+        hold(alike(cost_of(runs, set), cost), Wrong::TheCostOfTheRuns)?;
+        let outlets = self.record.outlets;
+        let joined = members(outlets).any(|j| has(grown(runs, set, bit(j)), outlets));
+        hold(joined, Wrong::TheRunsJoinTheOutlets)
+    }
+
+    // A plan that was found: no set of runs that joins the outlets costs less.
+    fn judge_found(&self, limit: u32, turns: u32, cost: K, row: &[u8]) -> Result<(), Fault> {
+        hold(alike(self.least, Some(cost)), Wrong::TheLeastCost)?;
+        hold(turns <= limit, Wrong::TheCountOfAPlan)?;
+        hold(turns as usize <= self.record.turns(), Wrong::TheTurnsOfAPlan)?;
+        self.judge_row(Some(cost), row)
+    }
+
+    // A plan that was stopped: it has taken all turns, which do not suffice, and nothing that joins is below the floor.
+    fn judge_stopped(&self, limit: u32, turns: u32, floor: K) -> Result<(), Fault> {
+        hold(turns == limit, Wrong::TheCountAtTheLimit)?;
+        hold((limit as usize) < self.record.turns(), Wrong::ALimitThatSuffices)?;
+        match self.least {
+            None => Ok(()),
+            Some(cost) => hold(!cost.is_below(floor), Wrong::TheFloor),
         }
     }
-    let set = dug(row);
-    hold(
-        alike(cost_of(&record.runs, set), Some(cost)),
-        Wrong::TheCostOfTheRuns,
-    )?;
-    let mut joined = false;
-    for j in 0..16 {
-        let seen = grown(&record.runs, set, bit(j));
-        joined = joined || has(seen, record.outlets);
-    }
-    hold(joined, Wrong::TheRunsJoinTheOutlets)
-}
 
-// A plan that was found: no set of runs that joins the outlets costs less.
-fn judge_found<K: Kind>(
-    record: &Record<K>,
-    limit: u32,
-    least: Option<K>,
-    said: Said,
-    row: &[u8],
-) -> Result<(), Fault> {
-    let cost = K::of(said.crossings, said.money);
-    hold(alike(least, Some(cost)), Wrong::TheLeastCost)?;
-    hold(said.count <= limit, Wrong::TheCountOfAPlan)?;
-    hold(
-        said.count as usize <= record.turns(),
-        Wrong::TheTurnsOfAPlan,
-    )?;
-    judge_row(record, cost, row)
-}
-
-// A plan that was stopped: it has taken all turns, which do not suffice, and nothing that joins is below the floor.
-fn judge_stopped<K: Kind>(
-    record: &Record<K>,
-    limit: u32,
-    least: Option<K>,
-    said: Said,
-) -> Result<(), Fault> {
-    hold(said.count == limit, Wrong::TheCountAtTheLimit)?;
-    hold((limit as usize) < record.turns(), Wrong::ALimitThatSuffices)?;
-    match least {
-        None => Ok(()),
-        Some(cost) => {
-            let floor = K::of(said.crossings, said.money);
-            hold(!cost.is_below(floor), Wrong::TheFloor)
+    // A turn that is a plan.
+    fn judge_plan(
+        &self,
+        allowance: Allowance,
+        fits: bool,
+        said: Said,
+        row: &[u8],
+    ) -> Result<(), Fault> {
+        if let Err(fails) = self.ask_plan(allowance, row.len(), fits) {
+            hold(said == Said::Refused(fails), Wrong::TheRefusalOfAPlan)?;
+            return hold(dug(row) == 0, Wrong::TheRowOfARefusedPlan);
+        }
+        let limit = allowance.limit;
+        match said {
+            Said::Planned(turns, cost, _) => self.judge_found(limit, turns, cost.cost(), row),
+            Said::Unjoined(turns) => hold(
+                turns <= limit && self.least.is_none(),
+                Wrong::NoSetOfRunsJoinsTheOutlets,
+            ),
+            Said::Stopped(turns, floor) => self.judge_stopped(limit, turns, floor.cost()),
+            _ => Err(Fault::Wrong(Wrong::APlanThatIsRefused)),
         }
     }
-}
 
-// A turn that is a plan.
-fn judge_plan<K: Kind>(
-    record: &Record<K>,
-    allowance: Allowance,
-    least: Option<K>,
-    fits: bool,
-    said: Said,
-    row: &[u8],
-) -> Result<(), Fault> {
-    let fails = plan_fails(record, allowance, row.len(), fits);
-    if fails > 0 {
-        hold(said == only(fails), Wrong::TheRefusalOfAPlan)?;
-        return hold(dug(row) == 0, Wrong::TheRowOfARefusedPlan);
-    }
-    match said.number {
-        0 => judge_found(record, allowance.limit, least, said, row),
-        18 => hold(
-            said.count <= allowance.limit && least.is_none(),
-            Wrong::NoSetOfRunsJoinsTheOutlets,
-        ),
-        19 => judge_stopped(record, allowance.limit, least, said),
-        _ => Err(Fault::Wrong(Wrong::APlanThatIsRefused)),
-    }
-}
-
-// What a call that is no plan must say, once it is noted in the record.
-fn must_say<K: Kind>(record: &Record<K>, call: Call<K>, fails: u8) -> Said {
-    let mut said = only(fails);
-    if let Call::Lay {
-        a: _,
-        b: _,
-        cost: _,
-    } = call
-    {
-        if fails == 0 {
-            said.count = (record.runs.len().saturating_sub(1).min(4096)) as u32;
+    // One turn in one way, where a plan's estimator fits or does not.
+    fn judge_turn(&self, turn: &Turn<K>, fits: bool) -> Result<Said, Fault> {
+        let said = read_answer(&turn.answer, &turn.row);
+        match turn.call {
+            Call::Plan(allowance) => self.judge_plan(allowance, fits, said, &turn.row)?,
+            _ => hold(self.must == Some(said), Wrong::TheAnswerOfACall)?,
         }
+        Ok(said)
     }
-    said
-}
 
-// Counts a turn.
-fn tell<K: Kind>(tally: &mut Tally, call: Call<K>, said: Said) {
-    count(&mut tally.calls);
-    if said.number > 0 {
-        tally.refuse(said.number);
-    } else if let Call::Plan(_) = call {
-        count(&mut tally.found);
+    // One turn in every way, with so many distances lent: each is right, and a row and a heap say the same.
+    fn judge_turns(
+        &self,
+        distances: usize,
+        outcomes: &[Outcome<K>],
+        tally: &mut Tally,
+    ) -> Result<(), Fault> {
+        let room = self.record.junctions.saturating_mul(12) <= distances as u64;
+        let mut before = None;
+        for (way, outcome) in outcomes.iter().enumerate() {
+            tally.way = way;
+            let turn = outcome.turns.get(tally.call).ok_or(Wrong::ATurnIsMissing)?;
+            let said = self.judge_turn(turn, room || !outcome.far)?;
+            tally.tell(said);
+            hold(way % 2 == 0 || before == Some(said), Wrong::BothQueues)?;
+            before = Some(said);
+        }
+        Ok(())
     }
-}
-
-// One turn in one way.
-fn judge_turn<K: Kind>(
-    record: &Record<K>,
-    fails: u8,
-    least: Option<K>,
-    fits: bool,
-    turn: &Turn<K>,
-    tally: &mut Tally,
-) -> Result<Said, Fault> {
-    let said = read_answer(&turn.answer, &turn.row);
-    match turn.call {
-        Call::Plan(allowance) => judge_plan(record, allowance, least, fits, said, &turn.row)?,
-        call => hold(
-            said == must_say(record, call, fails),
-            Wrong::TheAnswerOfACall,
-        )?,
-    }
-    tell(tally, turn.call, said);
-    Ok(said)
-}
-
-// One turn in every way: each is right, and a row and a heap say the same.
-fn judge_turns<K: Kind>(
-    record: &Record<K>,
-    fails: u8,
-    least: Option<K>,
-    distances: usize,
-    outcomes: &[Outcome<K>],
-    tally: &mut Tally,
-) -> Result<(), Fault> {
-    let mut before = only(98);
-    for (way, outcome) in outcomes.iter().enumerate() {
-        tally.way = way;
-        let fits = way < 2 || record.junctions.saturating_mul(12) <= distances as u64;
-        let Some(turn) = outcome.turns.get(tally.call) else {
-            return Err(Fault::Wrong(Wrong::ATurnIsMissing));
-        };
-        let said = judge_turn(record, fails, least, fits, turn, tally)?;
-        hold(way % 2 == 0 || said == before, Wrong::BothQueues)?;
-        before = said;
-    }
-    Ok(())
 }
 
 // The makings of a sequence, each with the same refusal or none.
 fn judge_making<K: Kind>(
-    fails: u8,
+    making: Result<(), Fails>,
     outcomes: &[Outcome<K>],
     tally: &mut Tally,
 ) -> Result<(), Fault> {
     for outcome in outcomes {
-        hold(outcome.making == fails, Wrong::TheMaking)?;
+        hold(outcome.making == making, Wrong::TheMaking)?;
         count(&mut tally.calls);
-        if fails > 0 {
+        if let Err(fails) = making {
             tally.refuse(fails);
-            for turn in outcome.turns.iter() {
-                hold(
-                    read_answer(&turn.answer, &turn.row) == only(99),
-                    Wrong::ATurnOfNoDistrict,
-                )?;
-            }
+            let untried = outcome
+                .turns
+                .iter()
+                .all(|turn| read_answer(&turn.answer, &turn.row) == Said::Untried);
+            hold(untried, Wrong::ATurnOfNoDistrict)?;
         }
     }
     Ok(())
@@ -212,12 +153,7 @@ fn least_of<K: Kind>(heap: Global, record: &Record<K>) -> Result<Option<K>, Faul
         return Ok(least_joined(heap, &record.runs, record.outlets)?);
     }
     let survey = surveyed(heap, record)?;
-    let table = survey.table(heap)?;
-    let root = survey.outlets.first().copied().unwrap_or(0);
-    Ok(at(
-        &table,
-        cell(root, survey.sets, survey.sets.saturating_sub(1)),
-    ))
+    Ok(survey.table(heap)?.at(survey.root(), survey.all()))
 }
 
 // All turns of a sequence, in every way; the record as it is at the end.
@@ -228,19 +164,24 @@ pub fn judge<K: Kind>(
     tally: &mut Tally,
 ) -> Result<Record<K>, Fault> {
     let mut record = Record::new(heap, sequence.junctions, sequence.capacity);
-    let making = record.make_fails();
+    let making = record.make();
     judge_making(making, outcomes, tally)?;
-    if making > 0 {
+    if making.is_err() {
         return Ok(record);
     }
     for (i, asked) in sequence.asked.iter().enumerate() {
         tally.call = i;
-        let fails = take(&mut record, asked.call)?;
-        let least = match asked.call {
-            Call::Plan(_) => least_of(heap, &record)?,
-            _ => None,
+        let must = take(&mut record, asked.call)?;
+        let least = match must {
+            None => least_of(heap, &record)?,
+            Some(_) => None,
         };
-        judge_turns(&record, fails, least, sequence.distances, outcomes, tally)?;
+        let standard = Standard {
+            record: &record,
+            must,
+            least,
+        };
+        standard.judge_turns(sequence.distances, outcomes, tally)?;
     }
     Ok(record)
 }

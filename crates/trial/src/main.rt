@@ -49,14 +49,14 @@ fn random_trial<K: Kind>(
     Ok(())
 }
 
-// Says where and what was wrong, or how many of what was tried.
+// Says where and what was wrong, or how many of what was tried, and hands on how it ended.
 fn report(
     rt: &HostRuntime,
     name: &str,
-    done: &Result<(), Fault>,
+    done: Result<(), Fault>,
     tally: &tally::Tally,
 ) -> Result<(), Fault> {
-    if let Err(Fault::Wrong(what)) = done {
+    if let Err(Fault::Wrong(what)) = &done {
         println!(rt;
             "{name}: wrong in sequence {}, call {}, way {}: {what}",
             tally.sequence, tally.call, tally.way
@@ -64,21 +64,18 @@ fn report(
     } else {
         println!(rt; "{name}: {tally}")?;
     }
-    Ok(())
+    done
 }
 
 fn main(rt: HostRuntime) -> Result<(), Fault> {
     all_false(&rt)?;
     let mut worked = tally::Tally::new();
     let done = all_cases(rt.alloc(), &mut worked);
-    report(&rt, "worked examples", &done, &worked)?;
-    done?;
+    report(&rt, "worked examples", done, &worked)?;
     let mut money = tally::Tally::new();
     let done = random_trial::<Money>(&rt, MONEY_SEED, &mut money);
-    report(&rt, "money", &done, &money)?;
-    done?;
+    report(&rt, "money", done, &money)?;
     let mut crossings = tally::Tally::new();
     let done = random_trial::<CrossingsFirst>(&rt, CROSSINGS_SEED, &mut crossings);
-    report(&rt, "crossings first", &done, &crossings)?;
-    done
+    report(&rt, "crossings first", done, &crossings)
 }

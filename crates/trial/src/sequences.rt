@@ -1,4 +1,5 @@
 // Sequences of random calls, right and wrong.
+use crate::calls::{ask, plan_within};
 use crate::fault::Fault;
 use crate::random::Random;
 use crate::ways::{Asked, Sequence};
@@ -102,13 +103,7 @@ pub fn any_sequence<K: Kind>(heap: Global, random: &mut Random) -> Result<Sequen
         let row = places(random, 10).min(10);
         asked.push(Asked { call, row })?;
     }
-    let call = Call::Plan(Allowance {
-        limit: u32::MAX,
-        labels: usize::MAX,
-        codes: usize::MAX,
-        junctions: usize::MAX,
-    });
-    asked.push(Asked { call, row: 9 })?;
+    ask(&mut asked, plan_within(u32::MAX))?;
     Ok(Sequence {
         junctions,
         capacity: (random.below(6) as usize).saturating_add(4),

@@ -1,4 +1,6 @@
 // How many of what was tried, and where the trial is.
+use oracle::record::Fails;
+use oracle::said::Said;
 use std::fmt;
 
 // One more than the largest number of a refusal.
@@ -38,10 +40,22 @@ impl Tally {
     }
 
     // One more refusal.
-    pub fn refuse(&mut self, number: u8) {
-        let i = number as usize;
-        if i < NUMBERS {
-            self.refused[i] = self.refused[i].saturating_add(1);
+    pub fn refuse(&mut self, fails: Fails) {
+        if let Some(times) = self.refused.get_mut(fails as usize) {
+            count(times);
+        }
+    }
+
+    // One more answer.
+    pub fn tell(&mut self, said: Said) {
+        count(&mut self.calls);
+        match said.fails() {
+            Some(fails) => self.refuse(fails),
+            None => {
+                if let Said::Planned(_, _, _) = said {
+                    count(&mut self.found);
+                }
+            }
         }
     }
 }

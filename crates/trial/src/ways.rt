@@ -6,7 +6,8 @@ use farthest::Farthest;
 use heap::Heap;
 use labelling::{Back, Label, Way};
 use network::{Cost, Run};
-use oracle::costs::row_of;
+use oracle::record::Fails;
+use plain::fails_of;
 use queue::{Queue, Row};
 use replay::{Answer, Call, Turn, replay};
 use std::alloc::Global;
@@ -33,18 +34,20 @@ pub struct Sequence<K> {
     pub asked: Vec<Asked<K>>,
 }
 
-// What a sequence got: the number of the refusal of its making, or 0, and its turns.
+// What a sequence got: what its making said, and its turns.
 #[derive(Drop)]
 pub struct Outcome<K> {
-    pub making: u8,
+    // Whether the estimator goes by the farthest outlet.
+    pub far: bool,
+    pub making: Result<(), Fails>,
     pub turns: Vec<Turn<K>>,
 }
 
 // Rows for so many runs.
 pub fn run_rows<K: Cost>(heap: Global, places: usize) -> Result<Memory<K>, Fault> {
     let cost = K::zero();
-    let runs = row_of(heap, Run { a: 1, b: 1, cost }, places)?;
-    let open = row_of(heap, true, places)?;
+    let runs = vec![in heap; Run { a: 1, b: 1, cost }; places]?;
+    let open = vec![in heap; true; places]?;
     Ok(Memory { runs, open })
 }
 
@@ -55,10 +58,10 @@ pub fn label_rows<K: Cost>(
 ) -> Result<(Vec<Label<K>>, Vec<Way>), Fault> {
     let reached = true;
     let cost = K::zero();
-    let labels = row_of(heap, Label { reached, cost }, places)?;
+    let labels = vec![in heap; Label { reached, cost }; places]?;
     let turn = 5;
     let back = Back::Fork(1);
-    let ways = row_of(heap, Way { turn, back }, places)?;
+    let ways = vec![in heap; Way { turn, back }; places]?;
     Ok((labels, ways))
 }
 
@@ -67,7 +70,7 @@ fn turns_of<K: Cost>(heap: Global, asked: &[Asked<K>]) -> Result<Vec<Turn<K>>, F
     let mut turns = Vec::new(heap);
     for one in asked {
         let call = one.call;
-        let row = row_of(heap, UNTOUCHED, one.row)?;
+        let row = vec![in heap; UNTOUCHED; one.row]?;
         let answer = Answer::Untried;
         turns.push(Turn { call, answer, row })?;
     }
@@ -80,6 +83,7 @@ fn tried<Q: Queue, E: Estimator<Cost = Q::Cost>>(
     sequence: &Sequence<Q::Cost>,
     queue: &mut Q,
     estimator: &mut E,
+    far: bool,
 ) -> Result<Outcome<Q::Cost>, Fault> {
     let memory = run_rows(heap, sequence.capacity)?;
     let (mut labels, mut ways) = label_rows(heap, LABELS)?;
@@ -93,52 +97,62 @@ fn tried<Q: Queue, E: Estimator<Cost = Q::Cost>>(
         queue,
         estimator,
     ) {
-        Ok(_) => 0,
-        Err(unmade) => unmade.why.number(),
+        Ok(_) => Ok(()),
+        Err(unmade) => Err(fails_of(unmade.why)),
     };
-    Ok(Outcome { making, turns })
+    Ok(Outcome { far, making, turns })
 }
 
 fn with_row<E: Estimator>(
     heap: Global,
     sequence: &Sequence<E::Cost>,
     estimator: &mut E,
+    far: bool,
 ) -> Result<Outcome<E::Cost>, Fault> {
-    let mut waiting = row_of(heap, None, LABELS)?;
+    let mut waiting = vec![in heap; None; LABELS]?;
     let mut queue = Row::over(&mut waiting);
-    tried(heap, sequence, &mut queue, estimator)
+    tried(heap, sequence, &mut queue, estimator, far)
 }
 
 fn with_heap<E: Estimator>(
     heap: Global,
     sequence: &Sequence<E::Cost>,
     estimator: &mut E,
+    far: bool,
 ) -> Result<Outcome<E::Cost>, Fault> {
-    let mut keys = row_of(heap, E::Cost::zero(), LABELS)?;
-    let mut codes = row_of(heap, 1u32, LABELS)?;
-    let mut places = row_of(heap, 2u32, LABELS)?;
+    let mut keys = vec![in heap; E::Cost::zero(); LABELS]?;
+    let mut codes = vec![in heap; 1u32; LABELS]?;
+    let mut places = vec![in heap; 2u32; LABELS]?;
     let mut queue = Heap::over(&mut keys, &mut codes, &mut places);
-    tried(heap, sequence, &mut queue, estimator)
+    tried(heap, sequence, &mut queue, estimator, far)
 }
 
-// The number of ways in which a sequence is tried: an even one has the row, an odd one the heap; the first two are
-// silent, the next two go by the farthest outlet, and the last two by the larger of both.
-pub const WAYS: usize = 6;
+// Tries a sequence with the row, and then with the heap.
+fn with_both<E: Estimator>(
+    heap: Global,
+    sequence: &Sequence<E::Cost>,
+    estimator: &mut E,
+    far: bool,
+    outcomes: &mut Vec<Outcome<E::Cost>>,
+) -> Result<(), Fault> {
+    outcomes.push(with_row(heap, sequence, estimator, far)?)?;
+    outcomes.push(with_heap(heap, sequence, estimator, far)?)?;
+    Ok(())
+}
 
+// Six ways in which a sequence is tried: an even one has the row, an odd one the heap; the first two are silent, the
+// next two go by the farthest outlet, and the last two by the larger of both.
 pub fn every_way<K: Cost>(heap: Global, sequence: &Sequence<K>) -> Result<Vec<Outcome<K>>, Fault> {
-    let mut outcomes = Vec::with_capacity(heap, WAYS)?;
+    let mut outcomes = Vec::new(heap);
     let mut silent = Silent::new();
-    outcomes.push(with_row(heap, sequence, &mut silent)?)?;
-    outcomes.push(with_heap(heap, sequence, &mut silent)?)?;
-    let mut distances = row_of(heap, None, sequence.distances)?;
+    with_both(heap, sequence, &mut silent, false, &mut outcomes)?;
+    let mut distances = vec![in heap; None; sequence.distances]?;
     let mut farthest = Farthest::over(&mut distances);
-    outcomes.push(with_row(heap, sequence, &mut farthest)?)?;
-    outcomes.push(with_heap(heap, sequence, &mut farthest)?)?;
+    with_both(heap, sequence, &mut farthest, true, &mut outcomes)?;
     let mut larger = Larger {
         first: silent,
         second: farthest,
     };
-    outcomes.push(with_row(heap, sequence, &mut larger)?)?;
-    outcomes.push(with_heap(heap, sequence, &mut larger)?)?;
+    with_both(heap, sequence, &mut larger, true, &mut outcomes)?;
     Ok(outcomes)
 }

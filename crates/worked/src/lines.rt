@@ -1,40 +1,27 @@
 // Lines that are written in an odd way, and lines that say nothing.
-use commands::{Call, Command, Figure, next_line, read_line};
+use commands::{Call, Command, Figure, Lines, next_line, read_line};
 use std::test::Fail;
 
-fn is_nothing(line: &[u8]) -> bool {
-    matches!(read_line(line), Some(Command::Nothing))
+fn lay(a: u64, b: u64, cost: u64) -> Option<Command> {
+    let cost = Figure::Money(cost);
+    Some(Command::Call(Call::Lay { a, b, cost }))
 }
 
-// What a line lays: its ends and its cost, or nothing.
-fn laid(line: &[u8]) -> Option<(u64, u64, u64)> {
-    let Command::Call(Call::Lay { a, b, cost }) = read_line(line)? else {
-        return None;
-    };
-    match cost {
-        Figure::Money(amount) => Some((a, b, amount)),
-        Figure::Crossings(_, _) => None,
-    }
-}
-
-fn marked(line: &[u8]) -> Option<u64> {
-    match read_line(line)? {
-        Command::Call(Call::Mark { junction }) => Some(junction),
-        _ => None,
-    }
+fn mark(junction: u64) -> Option<Command> {
+    Some(Command::Call(Call::Mark { junction }))
 }
 
 #[test]
 fn odd_lines(rt: HostRuntime) {
-    assert!(rt; is_nothing(b""));
-    assert!(rt; is_nothing(b" \t\r"));
-    assert!(rt; is_nothing(b"# lay 0 1 5"));
-    assert_eq!(rt; laid(b"\tlay\t0  1 5 \r"), Some((0, 1, 5)));
-    assert_eq!(rt; laid(b"lay 00 0001 5# a comment"), Some((0, 1, 5)));
+    assert_eq!(rt; read_line(b""), Some(Command::Nothing));
+    assert_eq!(rt; read_line(b" \t\r"), Some(Command::Nothing));
+    assert_eq!(rt; read_line(b"# lay 0 1 5"), Some(Command::Nothing));
+    assert_eq!(rt; read_line(b"\tlay\t0  1 5 \r"), lay(0, 1, 5));
+    assert_eq!(rt; read_line(b"lay 00 0001 5# a comment"), lay(0, 1, 5));
     let most = 18_446_744_073_709_551_615;
-    assert_eq!(rt; marked(b"mark 18446744073709551615"), Some(most));
-    assert_eq!(rt; marked(b"mark 18446744073709551616"), Some(most));
-    assert_eq!(rt; marked(b"mark 123456789012345678901234567890"), Some(most));
+    assert_eq!(rt; read_line(b"mark 18446744073709551615"), mark(most));
+    assert_eq!(rt; read_line(b"mark 18446744073709551616"), mark(most));
+    assert_eq!(rt; read_line(b"mark 123456789012345678901234567890"), mark(most));
 }
 
 #[test]
@@ -68,4 +55,17 @@ fn last_lines(rt: HostRuntime) -> Result<(), Fail> {
     };
     assert!(rt; line.is_empty() && rest == b"\nplan".as_slice());
     Ok(())
+}
+
+#[test]
+fn each_line(rt: HostRuntime) {
+    let text = b"mark 0\n\nmark 2\n";
+    let mut marked = 0;
+    for (number, line) in (0..).zip(Lines::of(text)) {
+        if read_line(line) == mark(number) {
+            marked = number;
+        }
+    }
+    assert_eq!(rt; marked, 2);
+    assert_eq!(rt; Lines::of(text).count(), 3);
 }

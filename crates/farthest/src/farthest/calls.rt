@@ -1,7 +1,7 @@
 // The calls on an estimator by the farthest outlet.
 ghost use Rattle.std.specs.Prelude.{◌≡◌, ℕ, ◌+◌, ◌*◌, ◌≤◌, [], ◌∷◌, length, None, slice_index_or};
 ghost use Rattle.std.specs.Option.{unwrap_or};
-ghost use Rattle.estimate.specs.Greater.{greater};
+ghost use Rattle.network.specs.Costs.{greater};
 ghost use Rattle.farthest.specs.Distances.{in_set, farthest, Far};
 ghost use Rattle.farthest.specs.Memories.{in_row, bound_of, has_room, room_for, lender_of};
 
@@ -38,7 +38,7 @@ fn place_at<K: Cost>(ds: &[Option<K>], at: usize) -> Option<K>
 fn greater_of<K: Cost>(best: K, place: Option<K>) -> K
     ensures { result ≡ greater K.Cost.kind best (unwrap_or place K.Cost.kind.zero) }
 {
-    place.map_or(best, |cost| if best.is_below(cost) { cost } else { best })
+    place.map_or(best, |cost| best.greater(cost))
 }
 
 // Whether `set` has the j-th outlet: the root is in no set.

@@ -8,6 +8,6 @@ invariant-loop-run g l =
     let k = length l.view.outlets.now in
     record {
       rest : applied g.K.Cost.kind (round_arcs k (open_runs (drop i l.view.runs.now) (drop i l.view.«open».now))) l.ds
-        ≡ applied g.K.Cost.kind (round_arcs k (open_runs l.view.runs.now l.view.«open».now)) l.initial.ds;
-      still : l.changed ≡ false → l.ds ≡ l.initial.ds
+          ≡ applied g.K.Cost.kind (round_arcs k (open_runs l.view.runs.now l.view.«open».now)) l.initial.ds;
+      still : l.changed ≡ false → l.ds ≡ l.initial.ds;
     }

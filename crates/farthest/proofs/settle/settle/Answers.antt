@@ -1,9 +1,6 @@
 use Rattle.std.proofs.Common.{arith}
-use Rattle.farthest.proofs.Steps.{rounds_more, rounds_end}
+use Rattle.farthest.proofs.Steps.{rounds_end}
 use Rattle.farthest.proofs.settle.settle.Goals as goal
-
-pub loop-preserved : goal.loop-preserved
-loop-preserved g c = rounds_more g.K.Cost.kind _ c.args.ds.now c.loop.ds c.round.new.ds c.loop.counter c.loop.invariant c.round.ensures.after
 
 pub returns-then-not-round : goal.returns-then-not-round
 returns-then-not-round g c =

@@ -1,29 +1,23 @@
-use Rattle.std.proofs.Common.{length, Ok, Err, sym, refl, ap, ◌∙◌, subst}
+use Rattle.std.proofs.Common.{Ok, Err, sym, refl, ap, ◌∙◌, subst}
 use Rattle.std.proofs.lemmas.Result.{err_from_is_err_and}
-use Rattle.network.specs.Layouts.{Priced, Layout}
+use Rattle.network.specs.Layouts.{Layout}
 use Rattle.district.specs.Model.{model_of}
-use Rattle.replay.specs.Calls.{after, allowed, desk}
+use Rattle.replay.specs.Calls.{after, allowed, offered}
 use Rattle.replay.specs.Sequence.{Asked, Tried}
 use Rattle.replay.proofs.attempt.try_call.Goals as goal
-
-pub try_plan-requires : goal.try_plan-requires
-try_plan-requires g c = subst (λ l. Priced g.Q.Cost.Cost.kind l.runs) (sym c.view-view.ensures) c.requires
 
 pub returns-in_ok-plan-in-Plan : goal.returns-in_ok-plan-in-Plan
 returns-in_ok-plan-in-Plan g c =
     let kind = g.Q.Cost.Cost.kind in
     let makes = g.E.Estimator.makes in
     let m = model_of c.args.district.now in
-    let here = desk (length c.args.labels.now) (length c.args.ways.now) (length (g.Q.Queue.waiting c.args.queue.now)) (g.E.Estimator.within c.args.estimator.now) in
+    let here = offered g.Q.Queue.waiting g.E.Estimator.within c.args.desk.now in
     let a = c.in-Plan.allowance in
-    let asked = subst (λ (l : Layout _). Asked kind makes (allowed here a) l a.limit c.args.row.now c.try_plan.new.row c.try_plan.result) c.view-view.ensures c.try_plan.ensures.asks in
+    let asked = subst (λ (l : Layout _). Asked kind makes (allowed here a) l a.limit c.args.row.now c.try_plan.new.row c.try_plan.result) c.view-view.ensures.shows c.try_plan.ensures.asks in
     record {
-      prices = c.requires;
       writes = ap (after kind m) (sym c.in-Plan.is);
       answers = subst (Tried kind makes here m c.args.row.now c.try_plan.new.row _) (sym c.in-Plan.is) (Ok c.in_ok-plan-in-Plan.plan, refl, subst (Asked kind makes (allowed here a) _ a.limit c.args.row.now c.try_plan.new.row) c.in_ok-plan-in-Plan.was asked);
-      lends = c.try_plan.ensures.lends;
       stands = c.try_plan.ensures.stands;
-      room = c.try_plan.ensures.room;
     }
 
 pub returns-in_err-plan-in-Plan : goal.returns-in_err-plan-in-Plan
@@ -31,15 +25,12 @@ returns-in_err-plan-in-Plan g c =
     let kind = g.Q.Cost.Cost.kind in
     let makes = g.E.Estimator.makes in
     let m = model_of c.args.district.now in
-    let here = desk (length c.args.labels.now) (length c.args.ways.now) (length (g.Q.Queue.waiting c.args.queue.now)) (g.E.Estimator.within c.args.estimator.now) in
+    let here = offered g.Q.Queue.waiting g.E.Estimator.within c.args.desk.now in
     let a = c.in-Plan.allowance in
-    let asked = subst (λ (l : Layout _). Asked kind makes (allowed here a) l a.limit c.args.row.now c.try_plan.new.row c.try_plan.result) c.view-view.ensures c.try_plan.ensures.asks in
+    let asked = subst (λ (l : Layout _). Asked kind makes (allowed here a) l a.limit c.args.row.now c.try_plan.new.row c.try_plan.result) c.view-view.ensures.shows c.try_plan.ensures.asks in
     let refused = err_from_is_err_and c.from_residual-in_err-plan-in-Plan.result c.from_residual-in_err-plan-in-Plan.ensures.1 in
     record {
-      prices = c.requires;
       writes = ap (after kind m) (sym c.in-Plan.is);
       answers = subst (Tried kind makes here m c.args.row.now c.try_plan.new.row _) (sym c.in-Plan.is) (Err c.in_err-plan-in-Plan.field-0.0, refused.1 ∙ ap Err refused.2, subst (Asked kind makes (allowed here a) _ a.limit c.args.row.now c.try_plan.new.row) c.in_err-plan-in-Plan.was asked);
-      lends = c.try_plan.ensures.lends;
       stands = c.try_plan.ensures.stands;
-      room = c.try_plan.ensures.room;
     }

@@ -19,7 +19,7 @@ loop-request-preserved g c =
     let turn = c.in_ok-turn.turn in
     let before = vec_items c.loop-request.turns in
     ap (map shape) c.in_ok-push.ensures.items ∙ map_push shape before turn ∙ ap (λ xs. xs ++ shape turn ∷ []) c.loop-request.invariant
-    ∙ ap (λ y. map f (take i rs) ++ y ∷ []) (c.in_ok-turn.ensures ∙ c.asked_of.ensures ∙ ap f c.request-item.is) ∙ sym (map_more f rs i x c.loop-request-test.true)
+    ∙ ap (λ y. map f (take i rs) ++ y ∷ []) (c.in_ok-turn.ensures ∙ ap f c.request-item.is) ∙ sym (map_more f rs i x c.loop-request-test.true)
 
 pub returns : goal.returns
 returns g c = c.loop-request.invariant ∙ ap (map (asked_of c.args.tools)) (take_all _ _ c.loop-request-test.false)

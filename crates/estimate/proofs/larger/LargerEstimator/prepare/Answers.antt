@@ -1,15 +1,7 @@
-use Rattle.std.proofs.Common.{◌≡◌, true, ◌&&◌, ◌++◌, length, sym, refl}
-use Rattle.std.proofs.lemmas.Bool.{and_parts}
+use Rattle.std.proofs.Common.{refl}
 use Rattle.district.specs.Model.{layout_of}
-use Rattle.network.specs.declared.refusal.Refusal.TheVariants.{EstimatorFit}
-use Rattle.estimate.proofs.Greaters.{both_fit, not_refused, greater_prepared}
+use Rattle.estimate.proofs.Greaters.{greater_prepared}
 use Rattle.estimate.proofs.larger.LargerEstimator.prepare.Goals as goal
-
-pub returns-clause-lends : goal.returns-clause-lends
-returns-clause-lends g c = λ i. c.prepare.ensures.lends i ++ c.prepare-2.ensures.lends i
-
-pub returns-clause-room : goal.returns-clause-room
-returns-clause-room g c = λ i n k. c.prepare.ensures.room i n k && c.prepare-2.ensures.room i n k
 
 pub returns-clause-made : goal.returns-clause-made
 returns-clause-made g c = λ e. record {

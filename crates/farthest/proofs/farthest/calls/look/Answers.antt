@@ -1,5 +1,5 @@
 use Rattle.std.proofs.Common.{unwrap_or, sym, ap, ◌∙◌}
-use Rattle.estimate.specs.Greater.{greater}
+use Rattle.network.specs.Costs.{greater}
 use Rattle.farthest.specs.Memories.{in_row}
 use Rattle.farthest.proofs.Steps.{far_skip, far_more}
 use Rattle.farthest.proofs.farthest.calls.look.Goals as goal

@@ -4,7 +4,7 @@ use std::io::Read;
 use std::{env, fs, io};
 
 // The text of the file that the only argument names, or of standard input.
-pub fn read_text(rt: &HostRuntime) -> Result<Vec<u8>, Fault> {
+pub(crate) fn read_text(rt: &HostRuntime) -> Result<Vec<u8>, Fault> {
     let mut args = env::args(rt)?;
     let _program = args.next();
     match args.next() {

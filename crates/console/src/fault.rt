@@ -1,4 +1,9 @@
-// What ends the program with status 1.
+// What ends a program with status 1.
+ghost use Rattle.std.specs.Prelude.{◌≡◌};
+ghost use Rattle.std.specs.IoError.{error_kind};
+ghost use Rattle.console.specs.declared.fault.Fault.TheVariants.{Memory as OutOfMemory};
+ghost use Rattle.console.specs.Faults.{fault_of};
+
 use std::alloc::AllocError;
 use std::{fmt, io};
 
@@ -25,6 +30,8 @@ impl fmt::Display for Fault {
 }
 
 impl From<AllocError> for Fault {
+    ghost from_gives = { λ _ fault. fault ≡ OutOfMemory };
+
     fn from(_e: AllocError) -> Fault {
         Fault::Memory
     }
@@ -32,6 +39,8 @@ impl From<AllocError> for Fault {
 
 // An error of the output, unless memory ran out.
 impl From<io::Error> for Fault {
+    ghost from_gives = { λ e fault. fault ≡ fault_of (error_kind e) };
+
     fn from(e: io::Error) -> Fault {
         match e.kind() {
             io::ErrorKind::OutOfMemory => Fault::Memory,
