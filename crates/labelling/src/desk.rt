@@ -14,6 +14,7 @@ use queue::Queue;
 // be lent as a `&mut`.
 #[derive(Drop)]
 pub struct Desk<'m, Q: Queue, E> {
+    // Two rows, and not one of pairs: drawing reads the ways back alone, which hold no costs.
     pub labels: &'m mut [Label<Q::Cost>],
     pub ways: &'m mut [Way],
     pub queue: Q,
