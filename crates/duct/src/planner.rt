@@ -5,7 +5,7 @@ ghost use Rattle.duct.specs.Scopes.{all_turns, allowed, scoped};
 
 use district::view::View;
 use estimate::{Estimator, Silent};
-use labelling::{Back, Label, Size, Way, room};
+use labelling::{Back, Desk, Size, Way, room};
 use network::Cost;
 use queue::{Queue, Row};
 use search::plan::plan;
@@ -67,26 +67,20 @@ fn plan_with<Q: Queue, E: Estimator<Cost = Q::Cost>>(
     queue: &mut Q,
     estimator: &mut E,
 ) -> Result<Result<Drawing<Q::Cost>, NoPlan<Q::Cost>>, AllocError> {
-    let unreached = Label {
-        reached: false,
-        cost: Q::Cost::zero(),
-    };
     let unsettled = Way {
         turn: 0,
         back: Back::Start,
     };
-    let mut labels = vec![in heap; unreached; scope.labels]?;
+    let mut labels = vec![in heap; None; scope.labels]?;
     let mut ways = vec![in heap; unsettled; scope.labels]?;
     let mut row = vec![in heap; 0u8; view.runs.len()]?;
-    match plan(
-        view,
-        scope.turns,
-        &mut labels,
-        &mut ways,
+    let mut desk = Desk {
+        labels: &mut labels,
+        ways: &mut ways,
         queue,
         estimator,
-        &mut row,
-    ) {
+    };
+    match plan(view, scope.turns, &mut desk, &mut row) {
         Ok(plan) => Ok(Ok(Drawing { plan, row })),
         Err(why) => Ok(Err(why)),
     }

@@ -4,6 +4,7 @@
 pub mod estimator;
 pub mod larger;
 pub mod lent;
+pub mod shared;
 pub mod silent;
 
 pub use estimator::Estimator;

@@ -1,9 +1,7 @@
 // What each line of a district got, on standard output.
 use console::{Fault, Marked};
 use network::{Cost, Refusal};
-use replay::{Answer, Call, Turn};
-use requests::Figured;
-use search::NoPlan;
+use replay::{Call, Reply, Turn};
 use sheets::{Entry, Sheet, Trial, find_trial};
 use std::fmt;
 
@@ -43,31 +41,25 @@ struct Got<'t, K> {
     turn: &'t Turn<K>,
 }
 
-impl<K: Cost + Figured> fmt::Display for Got<'_, K> {
+impl<K: Cost + fmt::Display> fmt::Display for Got<'_, K> {
     fn fmt<W: fmt::Write>(&self, f: &mut fmt::Formatter<W>) -> fmt::Result {
         match &self.turn.answer {
-            Answer::Untried => write!(f, "not tried"),
-            Answer::Laid(run) => write!(f, "run {run}"),
-            Answer::Done => {
+            None => write!(f, "not tried"),
+            Some(Err(why)) => write!(f, "{why}"),
+            Some(Ok(Reply::Laid(run))) => write!(f, "run {run}"),
+            Some(Ok(Reply::Done)) => {
                 let done = Done {
                     call: self.turn.call,
                 };
                 write!(f, "{done}")
             }
-            Answer::Refused(why) => write!(f, "refused {}", why.number()),
-            Answer::Planned(plan) => {
+            Some(Ok(Reply::Planned(plan))) => {
                 let runs = Marked {
                     row: &self.turn.row,
                 };
-                let cost = plan.cost.to_figure();
+                let cost = plan.cost;
                 let count = plan.count;
                 write!(f, "cost {cost}, runs{runs}, count {count}")
-            }
-            Answer::NotPlanned(NoPlan::Refused(why)) => write!(f, "refused {}", why.number()),
-            Answer::NotPlanned(NoPlan::Unjoined(count)) => write!(f, "refused 18, count {count}"),
-            Answer::NotPlanned(NoPlan::Stopped(count, floor)) => {
-                let floor = floor.to_figure();
-                write!(f, "refused 19, count {count}, floor {floor}")
             }
         }
     }
@@ -75,9 +67,9 @@ impl<K: Cost + Figured> fmt::Display for Got<'_, K> {
 
 // The cost of the last plan after a turn: a plan that was refused leaves none.
 fn planned_after<K: Cost>(turn: &Turn<K>, before: Option<K>) -> Option<K> {
-    match &turn.answer {
-        Answer::Planned(plan) => Some(plan.cost),
-        Answer::NotPlanned(_) => None,
+    match (&turn.answer, turn.call) {
+        (Some(Ok(Reply::Planned(plan))), _) => Some(plan.cost),
+        (Some(Err(_)), Call::Plan(_)) => None,
         _ => before,
     }
 }
@@ -90,14 +82,11 @@ enum Compared<K> {
     NotPlanned,
 }
 
-impl<K: Cost + Figured> fmt::Display for Compared<K> {
+impl<K: fmt::Display> fmt::Display for Compared<K> {
     fn fmt<W: fmt::Write>(&self, f: &mut fmt::Formatter<W>) -> fmt::Result {
         match self {
             Compared::Agrees => write!(f, "agrees"),
-            Compared::Differs { planned } => {
-                let planned = planned.to_figure();
-                write!(f, "differs, planned {planned}")
-            }
+            Compared::Differs { planned } => write!(f, "differs, planned {planned}"),
             Compared::NotPlanned => write!(f, "not planned"),
         }
     }
@@ -144,7 +133,7 @@ fn say_unmade<K: Cost>(
     sheet: &Sheet<K>,
     tally: &mut Tally,
 ) -> Result<(), Fault> {
-    println!(rt; "refused {}", why.number())?;
+    println!(rt; "{why}")?;
     for entry in sheet.entries.iter() {
         match *entry {
             Entry::NotUnderstood { line } => say_not_understood(rt, line, tally)?,
@@ -168,7 +157,7 @@ fn turn_at<'t, K: Cost>(
 }
 
 // The lines of a district that was made.
-fn say_made<K: Cost + Figured>(
+fn say_made<K: Cost + fmt::Display>(
     rt: &HostRuntime,
     sheet: &Sheet<K>,
     trials: &[Trial<K>],
@@ -184,7 +173,7 @@ fn say_made<K: Cost + Figured>(
             Entry::NotUnderstood { line } => say_not_understood(rt, line, tally)?,
             Entry::Dug { cost, .. } => {
                 let compared = compare(cost, planned);
-                println!(rt; "dug {}: {compared}", cost.to_figure())?;
+                println!(rt; "dug {cost}: {compared}")?;
                 tally.count(&compared);
             }
             Entry::Asked { at, .. } => {
@@ -199,7 +188,7 @@ fn say_made<K: Cost + Figured>(
 }
 
 // All lines of a sheet. The making gets the same answer with all tools.
-pub fn say_sheet<K: Cost + Figured>(
+pub fn say_sheet<K: Cost + fmt::Display>(
     rt: &HostRuntime,
     sheet: &Sheet<K>,
     trials: &[Trial<K>],

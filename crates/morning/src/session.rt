@@ -9,9 +9,10 @@ use console::Fault;
 use network::Cost;
 use requests::Figured;
 use sheets::{Page, Sheet, try_sheet};
+use std::fmt;
 
 // Tries the calls of a district and says what its lines got.
-fn finish_sheet<K: Cost + Figured>(
+fn finish_sheet<K: Cost + Figured + fmt::Display>(
     rt: &HostRuntime,
     sheet: &Sheet<K>,
     tally: &mut Tally,

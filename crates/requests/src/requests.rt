@@ -7,7 +7,7 @@ use crate::figured::Figured;
 use crate::tools::Tools;
 use commands::Call;
 use network::Cost;
-use replay::{Allowance, Answer, Call as Attempt, Turn};
+use replay::{Allowance, Call as Attempt, Turn};
 use std::alloc::{AllocError, Global};
 
 // The most junctions and runs that a district may have.
@@ -79,7 +79,7 @@ fn turn_of<K: Cost>(heap: Global, request: &Request<K>, tools: Tools) -> Result<
     let (call, row) = asked_of(request, tools);
     Ok(Turn {
         call,
-        answer: Answer::Untried,
+        answer: None,
         row: vec![in heap; 0u8; row]?,
     })
 }

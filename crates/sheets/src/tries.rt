@@ -1,7 +1,7 @@
 // The calls of a district, tried with a queue and an estimator over rows of memory.
 ghost use Rattle.std.specs.Prelude.{◌≡◌, length, IfOk};
 ghost use Rattle.district.specs.Model.{room_of};
-ghost use Rattle.replay.specs.Calls.{desk};
+ghost use Rattle.replay.specs.Calls.{offered};
 ghost use Rattle.sheets.specs.Sheets.{Tried, TriedBy, desk_for, makes_of, queue_room};
 
 use commands::{EstimatorChoice, QueueChoice};
@@ -9,7 +9,7 @@ use district::district::Memory;
 use estimate::{Estimator, Larger, Silent};
 use farthest::Farthest;
 use heap::Heap;
-use labelling::{Back, Label, Way};
+use labelling::{Back, Desk, Way};
 use network::{Cost, Refusal, Run};
 use queue::{Queue, Row};
 use replay::{Turn, replay};
@@ -23,19 +23,16 @@ pub struct Room {
     pub distances: usize,
 }
 
-// Tries the turns with this queue and this estimator.
+// Tries the turns with what lies on this desk.
 fn try_both<Q: Queue, E: Estimator<Cost = Q::Cost>>(
     junctions: u64,
     memory: Memory<Q::Cost>,
     turns: &mut [Turn<Q::Cost>],
-    labels: &mut [Label<Q::Cost>],
-    ways: &mut [Way],
-    queue: &mut Q,
-    estimator: &mut E,
+    desk: &mut Desk<'_, Q, E>,
 ) -> Result<(), Refusal>
-    ensures { TriedBy Q.Cost.Cost.kind E.makes (desk (length labels.old) (length ways.old) (length (Q.waiting queue.old)) (E.within estimator.old)) junctions (room_of memory) turns.old turns.new result }
+    ensures { TriedBy Q.Cost.Cost.kind E.makes (offered Q.waiting E.within desk.old) junctions (room_of memory) turns.old turns.new result }
 {
-    match replay(junctions, memory, turns, labels, ways, queue, estimator) {
+    match replay(junctions, memory, turns, desk) {
         Ok(_) => Ok(()),
         Err(unmade) => Err(unmade.why),
     }
@@ -54,56 +51,48 @@ fn try_queue<Q: Queue>(
 ) -> Result<Result<(), Refusal>, AllocError>
     ensures { IfOk result (λ made. TriedBy Q.Cost.Cost.kind (makes_of Q.Cost.Cost.kind estimator) (desk_for room.labels room.labels (length (Q.waiting queue.old)) estimator room.distances) junctions (room_of memory) turns.old turns.new made) }
 {
-    let unreached = Label {
-        reached: false,
-        cost: Q::Cost::zero(),
-    };
     let unsettled = Way {
         turn: 0,
         back: Back::Start,
     };
-    let mut labels = vec![in heap; unreached; room.labels]?;
+    let mut labels = vec![in heap; None; room.labels]?;
     let mut ways = vec![in heap; unsettled; room.labels]?;
     let mut distances = vec![in heap; None; room.distances]?;
+    let labels = labels.as_mut_slice();
+    let ways = ways.as_mut_slice();
     match estimator {
         EstimatorChoice::Silent => {
-            let mut silent = Silent::new();
-            Ok(try_both(
-                junctions,
-                memory,
-                turns,
-                &mut labels,
-                &mut ways,
+            let estimator = Silent::new();
+            let mut desk = Desk {
+                labels,
+                ways,
                 queue,
-                &mut silent,
-            ))
+                estimator,
+            };
+            Ok(try_both(junctions, memory, turns, &mut desk))
         }
         EstimatorChoice::Farthest => {
-            let mut farthest = Farthest::over(&mut distances);
-            Ok(try_both(
-                junctions,
-                memory,
-                turns,
-                &mut labels,
-                &mut ways,
+            let estimator = Farthest::over(&mut distances);
+            let mut desk = Desk {
+                labels,
+                ways,
                 queue,
-                &mut farthest,
-            ))
+                estimator,
+            };
+            Ok(try_both(junctions, memory, turns, &mut desk))
         }
         EstimatorChoice::Larger => {
-            let mut larger = Larger {
+            let estimator = Larger {
                 first: Silent::new(),
                 second: Farthest::over(&mut distances),
             };
-            Ok(try_both(
-                junctions,
-                memory,
-                turns,
-                &mut labels,
-                &mut ways,
+            let mut desk = Desk {
+                labels,
+                ways,
                 queue,
-                &mut larger,
-            ))
+                estimator,
+            };
+            Ok(try_both(junctions, memory, turns, &mut desk))
         }
     }
 }
