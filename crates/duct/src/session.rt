@@ -7,7 +7,7 @@ use crate::answer::Answer;
 use crate::site::Site;
 use console::Fault;
 use std::alloc::{AllocError, Global};
-use text::{Command, next_line, read_line};
+use text::{Command, Lines, read_line};
 
 // What a line gets.
 #[derive(Drop)]
@@ -85,13 +85,9 @@ pub fn answer_all(rt: &HostRuntime, text: &[u8]) -> Result<(), Fault> {
     let heap = rt.alloc();
     let mut session = Session { heap, site: None };
     let mut all_taken = true;
-    let mut number: u64 = 0;
-    let mut rest = text;
-    while let Some((line, after)) = next_line(rest) {
-        number += 1;
+    for (number, line) in (1..).zip(Lines::of(text)) {
         let reply = session.reply(line)?;
-        all_taken = say(rt, number, &reply)? && all_taken;
-        rest = after;
+        all_taken &= say(rt, number, &reply)?;
     }
     if all_taken {
         Ok(())

@@ -4,7 +4,7 @@ ghost use Rattle.commands.specs.Commands.{understood};
 ghost use Rattle.sheets.specs.Pages.{Read};
 
 use crate::say::{Tally, say_no_district, say_not_understood, say_sheet};
-use commands::{Command, next_line, read_line};
+use commands::{Command, Lines, read_line};
 use console::Fault;
 use network::Cost;
 use requests::Figured;
@@ -66,12 +66,8 @@ fn take_line(
 pub fn answer_all(rt: &HostRuntime, text: &[u8]) -> Result<(), Fault> {
     let mut tally = Tally::default();
     let mut page: Option<Page> = None;
-    let mut number: u64 = 0;
-    let mut rest = text;
-    while let Some((line, after)) = next_line(rest) {
-        number += 1;
+    for (number, line) in (1..).zip(Lines::of(text)) {
         take_line(rt, number, line, &mut page, &mut tally)?;
-        rest = after;
     }
     finish(rt, &page, &mut tally)?;
     println!(rt;
