@@ -6,7 +6,7 @@ use Rattle.network.specs.Layouts.{Layout}
 use Rattle.network.specs.Bounds.{Lawful}
 use Rattle.estimate.specs.Estimates.{Prepared}
 use Rattle.estimate.specs.Greater.{greater}
-use Rattle.estimate.proofs.Order.{le_trans, mono_l, greater_l, greater_r, greater_le}
+use Rattle.network.proofs.Order.{le_trans, mono_l, greater_l, greater_r, greater_le}
 
 module _ {K : Type 0} {kind : Kind K} (laws : Laws kind) (l : Layout K) (E F : ℕ → ℕ → K) where
   abbrev both : ℕ → ℕ → K

@@ -1,10 +1,7 @@
 -- The greater of two bounds. Assumes nothing.
-use Rattle.std.specs.Prelude.{◌≡◌, ℕ, cond}
+use Rattle.std.specs.Prelude.{◌≡◌, ℕ}
+pub use Rattle.network.specs.Costs.{greater}
 use Rattle.network.specs.Costs.{Kind}
-
--- the greater of two costs
-abbrev pub greater : {K : Type 0} → Kind K → K → K → K
-greater kind a b = cond (kind.below a b) b a
 
 -- the bound is everywhere the greater of one that M names and one that N names
 pub record GreaterOf {K : Type 0} (kind : Kind K) (M N : (ℕ → ℕ → K) → Type 0) (bound : ℕ → ℕ → K) : Type 0 where

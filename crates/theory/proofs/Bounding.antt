@@ -5,7 +5,7 @@ use Rattle.network.specs.Costs.{Kind, Laws}
 use Rattle.network.specs.Layouts.{Layout, Link, here, none, more, cost_of, Path, stay, go}
 use Rattle.network.specs.Bounds.{sets, Missing, Lawful}
 use Rattle.theory.specs.Derivations.{Deriv}
-use Rattle.theory.proofs.Order.{le_trans, le_eq, mono_r, unit_r}
+use Rattle.network.proofs.Order.{le_trans, le_eq, mono_r, unit_r}
 use Rattle.theory.proofs.Masks.{has_or_left, inside_or}
 use Rattle.theory.proofs.Paths.{on, back, same}
 use Rattle.theory.proofs.Drawing.{link_cost, drawing, drawing_open, drawing_same, drawn_path, drawn_cost}

@@ -7,7 +7,7 @@ use Rattle.network.specs.Costs.{Kind, Laws}
 use Rattle.network.specs.Layouts.{Layout, open_run, Link, Member, cost_of_run, cost_of, Path, stay}
 use Rattle.network.specs.Bounds.{others, placed, sets, Has}
 use Rattle.theory.specs.Derivations.{Connects, Deriv, outlet, step, fork}
-use Rattle.theory.proofs.Order.{le_trans, le_eq, mono, mono_l, mono_r, unit_r, left_comm, le_plus, le_plus_l, plus_swap}
+use Rattle.network.proofs.Order.{le_trans, le_eq, mono, mono_l, mono_r, unit_r, left_comm, le_plus, le_plus_l, plus_swap}
 use Rattle.theory.proofs.Paths.{on, back, through, without, along, against, run_link, path_nil, link_back, one_way, shut, dec_path, inside, inside_path, inside_short, not_dec, sides}
 use Rattle.theory.proofs.Masks.{or_swap, apart_comm, apart_or, apart_left, apart_right, has_top, has_or_right}
 

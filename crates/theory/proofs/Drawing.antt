@@ -6,7 +6,7 @@ use Rattle.network.specs.Costs.{Kind, Laws}
 use Rattle.network.specs.Layouts.{Layout, open_run, Link, Member, here, OpenSet, cost_of_run, cost_of, Path, go}
 use Rattle.network.specs.Bounds.{others, placed, sets, Has}
 use Rattle.theory.specs.Derivations.{InSet, Connects, Deriv, outlet, step, fork, uses, Same}
-use Rattle.theory.proofs.Order.{le_trans, le_eq}
+use Rattle.network.proofs.Order.{le_trans, le_eq}
 use Rattle.theory.proofs.Masks.{has_or, has_single, or_some}
 use Rattle.theory.proofs.Paths.{on, back, same, wider, longer}
 use Rattle.theory.proofs.Sets.{IsOpen, behead, in_left, in_right, in_either, gather, gather_same, gather_open, set_within, cost_append}

@@ -7,7 +7,7 @@ use Rattle.network.specs.Layouts.{Layout, open_run, Link, Member, here, OpenSet,
 use Rattle.network.specs.Bounds.{others, placed, sets}
 use Rattle.theory.specs.Derivations.{Deriv, outlet, step, fork, Cheapest}
 use Rattle.theory.specs.DreyfusWagner.{Split, Recurs, single, several, Rounds, DreyfusWagner}
-use Rattle.theory.proofs.Order.{le_trans, le_eq, mono, left_comm, cancel, cancel_l}
+use Rattle.network.proofs.Order.{le_trans, le_eq, mono, left_comm, cancel, cancel_l}
 use Rattle.theory.proofs.Masks.{apart_comm, has_single, has_self, part_below, not_split, same_place}
 use Rattle.theory.proofs.Paths.{longer, wider}
 use Rattle.theory.proofs.Sets.{IsOpen, behead, gather, gather_same, gather_open, set_within}

@@ -7,7 +7,7 @@ use Rattle.network.specs.Layouts.{Layout, Link}
 use Rattle.network.specs.Bounds.{others, placed, Lawful}
 use Rattle.theory.specs.Derivations.{Deriv, outlet, step, fork}
 use Rattle.theory.specs.Search.{Table, Settled, Waiting, Known, Searched, Sound, Next, Turn, Starts}
-use Rattle.theory.proofs.Order.{le_trans, le_eq, mono, mono_l, mono_r, left_comm, cancel}
+use Rattle.network.proofs.Order.{le_trans, le_eq, mono, mono_l, mono_r, left_comm, cancel}
 use Rattle.theory.proofs.Masks.{apart_comm}
 use Rattle.theory.proofs.Paths.{same_some, no_some}
 use Rattle.theory.proofs.Drawing.{deriv_below}

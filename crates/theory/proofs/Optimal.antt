@@ -5,7 +5,7 @@ use Rattle.network.specs.Layouts.{Layout, Member, here, there, OpenSet, Joins, O
 use Rattle.network.specs.Bounds.{root, others, placed, all_others, Lawful}
 use Rattle.theory.specs.Derivations.{Connects, Deriv, uses, Same, Cheapest, LeastCost}
 use Rattle.theory.specs.Search.{Table, Settled, Waiting, Searched}
-use Rattle.theory.proofs.Order.{le_trans, le_eq, unit_r}
+use Rattle.network.proofs.Order.{le_trans, le_eq, unit_r}
 use Rattle.theory.proofs.Masks.{full_has, full_small, full_some}
 use Rattle.theory.proofs.Paths.{on, back, same}
 use Rattle.theory.proofs.Decompose.{from_paths, decomposes}

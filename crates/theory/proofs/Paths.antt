@@ -4,7 +4,7 @@ use native.Mathlib.Decide.{ℕ_discrete}
 use Rattle.network.specs.declared.run.Run.{Run}
 use Rattle.network.specs.Costs.{Kind, Laws}
 use Rattle.network.specs.Layouts.{Layout, open_run, Leads, Link, Member, here, there, cost_of_run, cost_of, Path, stay, go}
-use Rattle.theory.proofs.Order.{left_comm, unit_r}
+use Rattle.network.proofs.Order.{left_comm, unit_r}
 
 pub dec_both : {A B : Type 0} → Dec A → Dec B → Dec (A × B)
 dec_both (yes a) (yes b) = yes (a, b)

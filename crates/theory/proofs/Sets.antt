@@ -5,7 +5,7 @@ use Rattle.network.specs.declared.run.Run.{Run}
 use Rattle.network.specs.Costs.{Kind, Laws}
 use Rattle.network.specs.Layouts.{Layout, open_run, Member, here, there, Climbs, none, more, OpenSet, cost_of_run, cost_of}
 use Rattle.theory.specs.Derivations.{Same}
-use Rattle.theory.proofs.Order.{le_trans, le_eq, zero_le, mono_r, left_comm}
+use Rattle.network.proofs.Order.{le_trans, le_eq, zero_le, mono_r, left_comm}
 
 -- ---- members
 pub drop_head : {k i : ℕ} {S : List ℕ} → k ≢ i → Member k (i ∷ S) → Member k S
