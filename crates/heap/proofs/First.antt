@@ -5,12 +5,13 @@ use Rattle.std.proofs.lemmas.List.{get_or_past}
 use Rattle.std.proofs.lemmas.Option.{slice_get-get_or}
 use Rattle.std.proofs.lemmas.Bool.{cases_Bool, cases_lt, cond-true, cond-false}
 use Rattle.network.specs.Costs.{Kind, Laws}
+use Rattle.network.proofs.Order.{le_eq, weaken}
 use Rattle.heap.specs.declared.Heap.{Heap}
 use Rattle.heap.specs.Heaps.{heap_waits, waits_at, before, Good}
 use Rattle.heap.specs.Places.{stands}
 use Rattle.heap.specs.Sifts.{Top}
 use Rattle.queue.specs.Waits.{FirstLeast, Least, taken}
-use Rattle.heap.proofs.Order.{no, asym, itself, before_irrefl, before_asym, before_trans, before_cotrans}
+use Rattle.heap.proofs.Order.{no, before_irrefl, before_asym, before_trans, before_cotrans}
 use Rattle.queue.proofs.Scan.{none≢some, some_within, first_unique}
 use Rattle.heap.proofs.Stands.{Among, stands_decides, at_waits, length_waits, none_at}
 use Rattle.heap.proofs.Tree.{first}
@@ -61,7 +62,7 @@ first_least {kind = kind} laws h k good pos key =
     [ inl p ↦ inl (cc) | inr q ↦ inr (sym key-d ∙ q.0 ∙ key-c, q.1) ] in
     record {
       waits = at_waits h (get_or codes 0 0) lt ∙ cond-true (stands h.len codes places (get_or codes 0 0)) (slice_get keys (get_or codes 0 0)) None here ∙ key;
-      none_below = λ d j e. elim (not-before d j e) [ inl p ↦ asym laws k j p | inr q ↦ itself laws j k q.0 ];
+      none_below = λ d j e. elim (not-before d j e) [ inl p ↦ weaken laws k j p | inr q ↦ le_eq laws (sym q.0) ];
       first = λ d j l e. elim (not-before d j e) [ inl p ↦ p | inr q ↦ absurd (omega (arith, q.1)) ];
     }
 

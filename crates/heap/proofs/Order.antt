@@ -2,19 +2,12 @@
 use Rattle.std.proofs.Common.{◌≡◌, ℕ, ◌<◌, ◌≤◌, Bool, true, false, ltb, ◌⊎◌, List, get_or, sym, refl, ap, ◌∙◌, inl, inr, arith}
 use Rattle.std.proofs.lemmas.Bool.{cases_Bool, both_ways, ltb-true, ltb-false, lt-ltb, le-ltb}
 use Rattle.network.specs.Costs.{Kind, Laws}
+use Rattle.network.proofs.Order.{le_eq, weaken}
 use Rattle.heap.specs.Heaps.{before}
 
 module _ {K : Type 0} {kind : Kind K} (laws : Laws kind) where
   abbrev below : K → K → Bool
   below = kind.below
-
-  pub asym : (j k : K) → below j k ≡ true → below k j ≡ false
-  asym j k p =
-      elim (cases_Bool (below k j))
-      [ inl q ↦ absurd (both_ways (below j j) (laws.irrefl j) (laws.trans j k j p q)) | inr f ↦ f ]
-
-  pub itself : (j k : K) → j ≡ k → below j k ≡ false
-  itself j k e = ap (below j) (sym e) ∙ laws.irrefl j
 
   module _ (keys : List K) (d : K) where
     pub yes : (a b : ℕ) → before below keys d a b ≡ true → (below (get_or keys a d) (get_or keys b d) ≡ true) ⊎ ((get_or keys a d ≡ get_or keys b d) × (a < b))
@@ -44,15 +37,15 @@ module _ {K : Type 0} {kind : Kind K} (laws : Laws kind) where
     from_yes : (a b : ℕ) → (below (get_or keys a d) (get_or keys b d) ≡ true) ⊎ ((get_or keys a d ≡ get_or keys b d) × (a < b)) → before below keys d a b ≡ true
     from_yes a b (inl p) = cc
     from_yes a b (inr q) =
-        let n = itself (get_or keys a d) (get_or keys b d) q.0 in
-        let m = itself (get_or keys b d) (get_or keys a d) (sym q.0) in
+        let n = le_eq laws (sym q.0) in
+        let m = le_eq laws q.0 in
         let l = lt-ltb a b q.1 in cc
 
     pub from_no : (a b : ℕ) → (below (get_or keys b d) (get_or keys a d) ≡ true) ⊎ ((get_or keys a d ≡ get_or keys b d) × (b ≤ a)) → before below keys d a b ≡ false
-    from_no a b (inl p) = let n = asym (get_or keys b d) (get_or keys a d) p in cc
+    from_no a b (inl p) = let n = weaken laws (get_or keys b d) (get_or keys a d) p in cc
     from_no a b (inr q) =
-        let n = itself (get_or keys a d) (get_or keys b d) q.0 in
-        let m = itself (get_or keys b d) (get_or keys a d) (sym q.0) in
+        let n = le_eq laws (sym q.0) in
+        let m = le_eq laws q.0 in
         let l = le-ltb a b q.1 in cc
 
     pub before_asym : (a b : ℕ) → before below keys d a b ≡ true → before below keys d b a ≡ false

@@ -3,6 +3,7 @@ use Rattle.std.proofs.Common.{◌≡◌, ℕ, ◌+◌, ◌<◌, Bool, true, fals
 use Rattle.std.proofs.lemmas.List.{get_or_past}
 use Rattle.std.proofs.lemmas.Bool.{cases_Bool, both_ways, cases_lt, cases_order}
 use Rattle.network.specs.Costs.{Kind, Laws}
+use Rattle.network.proofs.Order.{le_trans, weaken}
 use Rattle.queue.specs.Waits.{FirstLeast, Least, better}
 
 pub none≢some : {K : Type 0} {k : K} {G : Type 0} → None ≡ Some k → G
@@ -39,7 +40,7 @@ module _ {K : Type 0} {kind : Kind K} (laws : Laws kind) where
 
   -- not below one that is not below
   not_below : (a b c : K) → below a b ≡ true → below c b ≡ false → below c a ≡ false
-  not_below a b c ab cb = ⊎_elim (λ t. absurd (both_ways (below c b) cb (laws.trans c a b t ab))) (λ f. f) (cases_Bool (below c a))
+  not_below a b c ab cb = le_trans laws a b c (weaken laws a b ab) cb
 
   below_rest : (a b c : K) → below a b ≡ true → below c b ≡ false → below a c ≡ true
   below_rest a b c ab cb =
