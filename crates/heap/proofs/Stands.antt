@@ -139,5 +139,9 @@ module _ (codes places : List ℕ) (len cap i j : ℕ) (li : i < len) (lj : j < 
         ]
       ]
 
+  -- the same of rows that came out so
+  pub exchanged_found : (codes' places' : List ℕ) → codes' ≡ swap codes i j → places' ≡ swap places (get_or codes i 0) (get_or codes j 0) → Found len cap codes' places'
+  exchanged_found codes' places' e f = rw (e, f) swap_found
+
   pub swap_at : {K : Type 0} (keys : List K) (c : ℕ) → waits_at len keys (swap codes i j) (swap places (get_or codes i 0) (get_or codes j 0)) c ≡ waits_at len keys codes places c
   swap_at keys c = same_at keys keys len len cap codes (swap codes i j) places (swap places (get_or codes i 0) (get_or codes j 0)) c found swap_found refl (among_swap c) (swap_among c)

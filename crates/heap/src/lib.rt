@@ -9,6 +9,8 @@ mod tests;
 ghost use Rattle.std.specs.Prelude.{◌^◌, ◌<◌, ◌≤◌, length};
 ghost use Rattle.heap.specs.Places.{Found};
 
+// All memory is the caller's, so these are lent slices with a count beside them. The order of the codes is no field: it does not
+// hold while a code rises or sinks, and a field that speaks of it would ask for a kind of cost wherever the type is named.
 #[derive(Drop)]
 pub struct Heap<'m, K> {
     // How many codes there are; they are kept in 32 bits.
