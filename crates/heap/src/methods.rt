@@ -160,7 +160,7 @@ impl<'m, K: Cost> Heap<'m, K> {
         let mut at = start;
         while at > 0 {
             let up = place_over(at);
-            if !(*self).precedes(at, up) {
+            if !self.precedes(at, up) {
                 break;
             }
             self.swap(at, up);
@@ -177,7 +177,7 @@ impl<'m, K: Cost> Heap<'m, K> {
         let right = left + 1;
         if right >= self.len {
             left
-        } else if (*self).precedes(right, left) {
+        } else if self.precedes(right, left) {
             right
         } else {
             left
@@ -192,8 +192,8 @@ impl<'m, K: Cost> Heap<'m, K> {
     {
         let mut at = start;
         while at < self.len / 2 {
-            let next = (*self).child(at);
-            if !(*self).precedes(next, at) {
+            let next = self.child(at);
+            if !self.precedes(next, at) {
                 break;
             }
             self.swap(at, next);
@@ -211,7 +211,7 @@ impl<'m, K: Cost> Heap<'m, K> {
         ensures waits { heap_waits self.new ≡ put_in K.Cost.kind.below (heap_waits self.old) code key }
     {
         let at = self.places[code as usize];
-        if (*self).falls(code, key) {
+        if self.falls(code, key) {
             self.set_key(code, key);
             self.rise(at);
         }
@@ -239,7 +239,7 @@ impl<'m, K: Cost> Heap<'m, K> {
         ensures lends { heap_lender self.new ≡ heap_lender self.old }
         ensures waits { heap_waits self.new ≡ put_in K.Cost.kind.below (heap_waits self.old) code key }
     {
-        if (*self).has(code) {
+        if self.has(code) {
             self.lower(code, key);
         } else {
             self.insert(code, key);
@@ -270,7 +270,7 @@ impl<'m, K: Cost> Queue for Heap<'m, K> {
     ghost lender = { heap_lender };
 
     fn capacity(&self) -> usize {
-        (*self).size() as usize
+        self.size() as usize
     }
 
     fn clear(&mut self) {
@@ -278,7 +278,7 @@ impl<'m, K: Cost> Queue for Heap<'m, K> {
     }
 
     fn put(&mut self, code: usize, cost: K) -> Result<(), Refusal> {
-        let size = (*self).size() as usize;
+        let size = self.size() as usize;
         if code < size {
             self.lower_or_insert(code as u32, cost);
             Ok(())
@@ -288,7 +288,7 @@ impl<'m, K: Cost> Queue for Heap<'m, K> {
     }
 
     fn least(&self) -> Option<(K, usize)> {
-        (*self).top()
+        self.top()
     }
 
     fn take(&mut self) -> Option<(K, usize)> {

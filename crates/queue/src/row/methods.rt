@@ -74,7 +74,7 @@ impl<'a, K: Cost> Queue for Row<'a, K> {
     }
 
     fn least(&self) -> Option<(K, usize)> {
-        scan(&*self.places)
+        scan(self.places)
     }
 
     fn take(&mut self) -> Option<(K, usize)> {
