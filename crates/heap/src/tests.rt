@@ -11,12 +11,12 @@ fn crossings(crossings: u64, money: u64) -> CrossingsFirst {
 }
 
 // The codes take their place in the queue, one after the other.
-fn put_two<Q: Queue>(queue: &mut Q, a: usize, cost_a: Q::Cost, b: usize, cost_b: Q::Cost)
+fn put_two<Q: Queue>(queue: &mut Q, first: (usize, Q::Cost), second: (usize, Q::Cost))
     requires { Q.ok queue.old }
     ensures { Q.ok queue.new }
 {
-    let _ = (*queue).put(a, cost_a);
-    let _ = (*queue).put(b, cost_b);
+    let _ = (*queue).put(first.0, first.1);
+    let _ = (*queue).put(second.0, second.1);
 }
 
 // The code that is taken, if one waits.
@@ -54,10 +54,10 @@ fn heap_by_money_and_then_code(rt: HostRuntime) {
     let mut codes = [3; 5];
     let mut places = [2; 5];
     let mut heap = Heap::over(&mut keys, &mut codes, &mut places);
-    put_two(&mut heap, 4, money(5), 2, money(5));
-    put_two(&mut heap, 0, money(8), 3, money(9));
+    put_two(&mut heap, (4, money(5)), (2, money(5)));
+    put_two(&mut heap, (0, money(8)), (3, money(9)));
     // One is lowered, the other is not raised.
-    put_two(&mut heap, 3, money(6), 2, money(7));
+    put_two(&mut heap, (3, money(6)), (2, money(7)));
     assert!(rt; next_three(&mut heap) == [Some(2), Some(4), Some(3)]);
     assert!(rt; next_three(&mut heap) == [Some(0), None, None]);
 }
@@ -68,8 +68,8 @@ fn heap_by_crossings_first(rt: HostRuntime) {
     let mut codes = [0; 3];
     let mut places = [0; 3];
     let mut heap = Heap::over(&mut keys, &mut codes, &mut places);
-    put_two(&mut heap, 0, crossings(2, 5), 1, crossings(1, 900));
-    put_two(&mut heap, 2, crossings(1, 800), 0, crossings(2, 6));
+    put_two(&mut heap, (0, crossings(2, 5)), (1, crossings(1, 900)));
+    put_two(&mut heap, (2, crossings(1, 800)), (0, crossings(2, 6)));
     assert!(rt; next_three(&mut heap) == [Some(2), Some(1), Some(0)]);
 }
 
@@ -79,10 +79,10 @@ fn heap_cleared_and_filled_again(rt: HostRuntime) {
     let mut codes = [0; 2];
     let mut places = [0; 2];
     let mut heap = Heap::over(&mut keys, &mut codes, &mut places);
-    put_two(&mut heap, 0, money(1), 1, money(2));
+    put_two(&mut heap, (0, money(1)), (1, money(2)));
     heap.clear();
     assert!(rt; heap.least().is_none());
-    put_two(&mut heap, 1, money(3), 1, money(4));
+    put_two(&mut heap, (1, money(3)), (1, money(4)));
     assert!(rt; next_three(&mut heap) == [Some(1), None, None]);
 }
 

@@ -1,12 +1,12 @@
-use Rattle.std.proofs.Common.{◌≡◌, get_or, set, None, sym, ap, ◌∙◌, arith}
+use Rattle.std.proofs.Common.{◌≡◌, get_or, set, None, sym, ap, ◌∙◌}
 use Rattle.std.proofs.lemmas.Bool.{cond-false}
 use Rattle.std.specs.List.{slice_get}
 use Rattle.heap.specs.Heaps.{heap_waits}
 use Rattle.heap.specs.Places.{stands}
 use Rattle.queue.specs.Waits.{lowered}
-use Rattle.heap.proofs.Made.{made_waits, made_but_at}
+use Rattle.heap.proofs.Made.{made_waits}
 use Rattle.heap.proofs.Stands.{at_waits}
-use Rattle.heap.proofs.Changes.{insert_made, insert_but}
+use Rattle.heap.proofs.Changes.{insert_made}
 use Rattle.heap.proofs.Heap.insert.Goals as goal
 
 pub returns : goal.returns

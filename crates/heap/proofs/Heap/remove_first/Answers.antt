@@ -1,8 +1,8 @@
 use Rattle.std.proofs.Common.{◌≤◌, length, refl, ◌∙◌, arith}
-use Rattle.heap.specs.Heaps.{heap_waits, before}
-use Rattle.heap.proofs.Changes.{remove_made, remove_but}
+use Rattle.heap.specs.Heaps.{heap_waits}
+use Rattle.heap.proofs.Changes.{remove_made}
 use Rattle.heap.proofs.First.{taken_first, taken_none}
-use Rattle.heap.proofs.Made.{made_waits, made_but_under}
+use Rattle.heap.proofs.Made.{made_waits}
 use Rattle.heap.proofs.Heap.remove_first.Goals as goal
 
 pub returns-then-self-gt0 : goal.returns-then-self-gt0
