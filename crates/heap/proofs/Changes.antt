@@ -7,7 +7,7 @@ use Rattle.std.proofs.lemmas.Bool.{cases_eq, cases_lt, cases_Bool, both_ways, co
 use Rattle.network.specs.Costs.{Kind, Laws}
 use Rattle.heap.specs.Heaps.{waits_at, before, parent, Ordered}
 use Rattle.heap.specs.Places.{stands, Found}
-use Rattle.heap.specs.Sifts.{OrderedButAt, OrderedButUnder, Over}
+use Rattle.heap.specs.Sifts.{OrderedButAt, Over}
 use Rattle.heap.proofs.Full.{misses}
 use Rattle.heap.proofs.Order.{no, from_no, before_cotrans}
 use Rattle.heap.proofs.Stands.{Among, stands_decides, set_made, same_at}
@@ -125,19 +125,6 @@ module _ (codes places : List ℕ) (len cap c : ℕ) (lt : c < cap) (placed : ca
       ])
       (λ m. let n : m.0 ≢ len = omega (arith, m.1) in (m.0, omega (arith, m.1), old_code m.0 n ∙ m.2)))
 
-  pub insert_but : {K : Type 0} (keys : List K) (key : K) (below : K → K → Bool) (d : K) → Ordered (before below keys d) len (λ k. get_or codes k 0) → OrderedButAt (before below (set keys c key) d) (len + 1) (λ k. get_or (set codes len c) k 0) len × Over (before below (set keys c key) d) (len + 1) (λ k. get_or (set codes len c) k 0) len
-  insert_but keys key below d order = (
-    (λ k p l n.
-        let b : k < len = omega arith in
-        let m : parent k ≢ len = omega arith in
-        let e = old_code k n in
-        let f = old_code (parent k) m in
-        let same = other_keys below keys c key d (get_or codes k 0) (get_or codes (parent k) 0) (not_c k b) (not_c (parent k) (omega arith)) in
-        let old = order k p b in
-        ap (λ x. before below (set keys c key) d x (get_or (set codes len c) (parent k) 0)) e ∙ ap (λ y. before below (set keys c key) d (get_or codes k 0) y) f ∙ same ∙ old),
-    (λ k p l q up. absurd (omega arith)),
-  )
-
 -- The last code takes the place of the first.
 module _ (codes places : List ℕ) (len cap : ℕ) (pos : 0 < len) (placed : cap ≤ length places) (coded : len ≤ length codes) (found : Found len cap codes places) where
   kept_code : (k : ℕ) → k ≢ 0 → get_or (set codes 0 (get_or codes (len - 1) 0)) k 0 ≡ get_or codes k 0
@@ -191,13 +178,3 @@ module _ (codes places : List ℕ) (len cap : ℕ) (pos : 0 < len) (placed : cap
       set_made (waits_at len keys codes places) (waits_at (len - 1) keys codes' places') cap cap first None None refl (found 0 pos).0
       (cond-false (stands (len - 1) codes' places' first) (slice_get keys first) None gone)
       (λ x l ne. same_at keys keys len (len - 1) cap codes codes' places places' x found remove_found refl (λ m. (old x m).0) (new x ne))
-
-  pub remove_but : (u : ℕ → ℕ → Bool) → Ordered u len (λ k. get_or codes k 0) → OrderedButUnder u (len - 1) (λ k. get_or (set codes 0 (get_or codes (len - 1) 0)) k 0) 0 × Over u (len - 1) (λ k. get_or (set codes 0 (get_or codes (len - 1) 0)) k 0) 0
-  remove_but u order = (
-    (λ k p l n.
-        let nk : k ≢ 0 = omega arith in
-        let e = kept_code k nk in
-        let f = kept_code (parent k) n in
-        ap (λ x. u x (get_or (set codes 0 (get_or codes (len - 1) 0)) (parent k) 0)) e ∙ ap (λ y. u (get_or codes k 0) y) f ∙ order k p (omega arith)),
-    (λ k p l q up. absurd (omega arith)),
-  )

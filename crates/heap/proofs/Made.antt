@@ -3,7 +3,7 @@ use Rattle.std.proofs.Common.{◌≡◌, ℕ, ◌<◌, ◌≤◌, Bool, List, ma
 use Rattle.std.specs.List.{range_with_len, swap}
 use Rattle.heap.specs.declared.Heap.{Heap}
 use Rattle.heap.specs.Heaps.{waits_at, heap_waits, before}
-use Rattle.heap.specs.Sifts.{Made, Emptied, Exchanged, Kept, OrderedButAt, OrderedButUnder, Over, ButAt, ButUnder}
+use Rattle.heap.specs.Sifts.{Made, Emptied, Exchanged, Kept, OrderedButAt, Over, ButAt}
 use Rattle.heap.proofs.Stands.{length_waits, same_made, nothing_made, none_at, swap_at}
 
 module _ {K : Type 0} {h g : Heap K} {len : ℕ} {keys : List K} {codes places : List ℕ} (m : Made h g len keys codes places) where
@@ -23,10 +23,6 @@ module _ {K : Type 0} {h g : Heap K} {len : ℕ} {keys : List K} {codes places :
   pub made_but_at : (below : K → K → Bool) (at : ℕ) → ((d : K) → OrderedButAt (before below keys d) len (λ k. get_or codes k 0) at × Over (before below keys d) len (λ k. get_or codes k 0) at) → ButAt below g at
   made_but_at below at but =
       made_as (λ cap n ks cs ps. (d : K) → OrderedButAt (before below ks d) n (λ k. get_or cs k 0) at × Over (before below ks d) n (λ k. get_or cs k 0) at) but
-
-  pub made_but_under : (below : K → K → Bool) (at : ℕ) → ((d : K) → OrderedButUnder (before below keys d) len (λ k. get_or codes k 0) at × Over (before below keys d) len (λ k. get_or codes k 0) at) → ButUnder below g at
-  made_but_under below at but =
-      made_as (λ cap n ks cs ps. (d : K) → OrderedButUnder (before below ks d) n (λ k. get_or cs k 0) at × Over (before below ks d) n (λ k. get_or cs k 0) at) but
 
 -- nothing waits in an emptied heap
 pub emptied_waits : {K : Type 0} (h g : Heap K) → Emptied h g → heap_waits g ≡ replicate (length (heap_waits h)) None
