@@ -175,9 +175,7 @@ impl<'m, K: Cost> Heap<'m, K> {
     {
         let left = at + at + 1;
         let right = left + 1;
-        if right >= self.len {
-            left
-        } else if self.precedes(right, left) {
+        if right < self.len && self.precedes(right, left) {
             right
         } else {
             left

@@ -15,7 +15,8 @@ pub trait Queue {
     // At each code below the capacity the cost at which it waits, or none.
     ghost waiting: { Self → List (Option Self.Cost) };
 
-    // In good order: what `clear` makes, and `put` and `take` ask for and keep.
+    // In good order: what `clear` makes, and `put` and `take` ask for and keep. It is no invariant of the type, so a queue may lose
+    // it between its own steps, and be of no order at all until it is cleared.
     ghost ok: { Self → Type 0 };
 
     // The rows that the queue was lent, if any.
