@@ -1,5 +1,5 @@
 -- What a step of a heap left in its rows, carried over to the heap. Assumes nothing.
-use Rattle.std.proofs.Common.{◌≡◌, ℕ, ◌<◌, ◌≤◌, Bool, List, map, length, get_or, replicate, None, sym, refl, ap, ◌∙◌, subst, arith}
+use Rattle.std.proofs.Common.{set, ◌≡◌, ℕ, ◌<◌, ◌≤◌, Bool, List, map, length, get_or, replicate, None, sym, refl, ap, ◌∙◌, subst, arith}
 use Rattle.std.specs.List.{range_with_len, swap}
 use Rattle.heap.specs.declared.Heap.{Heap}
 use Rattle.heap.specs.Heaps.{waits_at, heap_waits, before}
@@ -43,7 +43,7 @@ module _ {K : Type 0} (h g : Heap K) (i j : ℕ) (li : i < h.len) (lj : j < h.le
       let codes = h.codes.now in
       let places = h.places.now in
       let codes' = swap codes i j in
-      let places' = swap places (get_or codes i 0) (get_or codes j 0) in
+      let places' = set (set places (get_or codes j 0) i) (get_or codes i 0) j in
       record {
         caps = m.caps;
         lens = m.lens;

@@ -2,7 +2,7 @@
 use Rattle.std.proofs.Common.{◌≡◌, ℕ, ◌<◌, ◌≤◌, Bool, cond, eqb, ltb, ◌≢◌, List, map, length, get_or, set, replicate, None, Decides, sym, refl, ap, ◌∙◌, inl, inr, arith}
 use Rattle.std.specs.List.{range_with_len, swap, slice_get}
 use Rattle.std.proofs.lemmas.List.FromFn.{length-map-range_with_len, get_or-map-range_with_len, fill_by_all}
-use Rattle.std.proofs.lemmas.List.Edits.{Swapped, swapped_from_swap}
+use Rattle.std.proofs.lemmas.List.Edits.{Swapped, swap_is, swapped_from_swap}
 use Rattle.std.proofs.lemmas.List.{length-set, get_or-set_same, get_or-set_other, get_or-replicate, length-replicate}
 use Rattle.std.proofs.lemmas.Bool.{cases_eq, and_parts, and_from, and_left, ltb-true, eqb-true, lt-ltb, le-ltb, eq-eqb}
 use Rattle.std.proofs.lemmas.Bool.Decides.{same_from_decides}
@@ -118,30 +118,38 @@ module _ (codes places : List ℕ) (len cap i j : ℕ) (li : i < len) (lj : j < 
       let z : get_or places (get_or codes k 0) 0 ≡ get_or places (get_or codes m 0) 0 = ap (λ c. get_or places c 0) s in
       ne (omega (arith, (found k lk).1, (found m lm).1))
 
-  pub swap_found : Found len cap (swap codes i j) (swap places (get_or codes i 0) (get_or codes j 0))
+  -- to note both places is to exchange what was noted
+  noted : set (set places (get_or codes j 0) i) (get_or codes i 0) j ≡ swap places (get_or codes j 0) (get_or codes i 0)
+  noted =
+      let p = (found i li).1 in
+      let q = (found j lj).1 in
+      let e = swap_is places (get_or codes j 0) (get_or codes i 0) 0 (omega (arith, (found j lj).0)) (omega (arith, (found i li).0)) in
+      cc
+
+  pub swap_found : Found len cap (swap codes i j) (set (set places (get_or codes j 0) i) (get_or codes i 0) j)
   swap_found k lt =
       let a = get_or codes i 0 in
       let b = get_or codes j 0 in
-      let P = swap places a b in
-      let S : Swapped (λ c. get_or places c 0) (λ c. get_or P c 0) a b =
-      swapped_from_swap places P a b 0 (omega (arith, (found i li).0)) (omega (arith, (found j lj).0)) refl in
+      let P = set (set places b i) a j in
+      let S : Swapped (λ c. get_or places c 0) (λ c. get_or P c 0) b a =
+      swapped_from_swap places P b a 0 (omega (arith, (found j lj).0)) (omega (arith, (found i li).0)) noted in
       elim (cases_eq k i) [
         | inl e ↦
             let is : get_or (swap codes i j) k 0 ≡ b = ap (λ k. get_or (swap codes i j) k 0) e ∙ swaps.0 in
-            (rw is (found j lj).0, ap (λ c. get_or P c 0) is ∙ S.1 ∙ (found i li).1 ∙ sym e)
+            (rw is (found j lj).0, ap (λ c. get_or P c 0) is ∙ S.0 ∙ (found i li).1 ∙ sym e)
         | inr p ↦ elim (cases_eq k j) [
           | inl e ↦
               let is : get_or (swap codes i j) k 0 ≡ a = ap (λ k. get_or (swap codes i j) k 0) e ∙ swaps.1 in
-              (rw is (found i li).0, ap (λ c. get_or P c 0) is ∙ S.0 ∙ (found j lj).1 ∙ sym e)
+              (rw is (found i li).0, ap (λ c. get_or P c 0) is ∙ S.1 ∙ (found j lj).1 ∙ sym e)
           | inr q ↦
               let is : get_or (swap codes i j) k 0 ≡ get_or codes k 0 = swaps.2 k p q in
-              (rw is (found k lt).0, ap (λ c. get_or P c 0) is ∙ S.2 (get_or codes k 0) (one_code k i lt li p) (one_code k j lt lj q) ∙ (found k lt).1)
+              (rw is (found k lt).0, ap (λ c. get_or P c 0) is ∙ S.2 (get_or codes k 0) (one_code k j lt lj q) (one_code k i lt li p) ∙ (found k lt).1)
         ]
       ]
 
   -- the same of rows that came out so
-  pub exchanged_found : (codes' places' : List ℕ) → codes' ≡ swap codes i j → places' ≡ swap places (get_or codes i 0) (get_or codes j 0) → Found len cap codes' places'
+  pub exchanged_found : (codes' places' : List ℕ) → codes' ≡ swap codes i j → places' ≡ set (set places (get_or codes j 0) i) (get_or codes i 0) j → Found len cap codes' places'
   exchanged_found codes' places' e f = rw (e, f) swap_found
 
-  pub swap_at : {K : Type 0} (keys : List K) (c : ℕ) → waits_at len keys (swap codes i j) (swap places (get_or codes i 0) (get_or codes j 0)) c ≡ waits_at len keys codes places c
-  swap_at keys c = same_at keys keys len len cap codes (swap codes i j) places (swap places (get_or codes i 0) (get_or codes j 0)) c found swap_found refl (among_swap c) (swap_among c)
+  pub swap_at : {K : Type 0} (keys : List K) (c : ℕ) → waits_at len keys (swap codes i j) (set (set places (get_or codes j 0) i) (get_or codes i 0) j) c ≡ waits_at len keys codes places c
+  swap_at keys c = same_at keys keys len len cap codes (swap codes i j) places (set (set places (get_or codes j 0) i) (get_or codes i 0) j) c found swap_found refl (among_swap c) (swap_among c)

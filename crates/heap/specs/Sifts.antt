@@ -26,10 +26,11 @@ pub record Made {K : Type 0} (h g : Heap K) (len : ℕ) (keys : List K) (codes p
 abbrev pub Emptied : {K : Type 0} → Heap K → Heap K → Type 0
 Emptied h g = Made h g 0 h.keys.now h.codes.now h.places.now
 
--- the codes at the places i and j are exchanged, and what is noted for them
+-- the codes at the places i and j are exchanged, and the place of each is noted
 abbrev pub Exchanged : {K : Type 0} → Heap K → Heap K → ℕ → ℕ → Type 0
 Exchanged h g i j =
-    Made h g h.len h.keys.now (swap h.codes.now i j) (swap h.places.now (slice_index h.codes.now i) (slice_index h.codes.now j))
+    Made h g h.len h.keys.now (swap h.codes.now i j)
+    (slice_set (slice_set h.places.now (slice_index h.codes.now j) i) (slice_index h.codes.now i) j)
 
 -- a code has another key
 abbrev pub Rekeyed : {K : Type 0} → Heap K → Heap K → ℕ → K → Type 0

@@ -1,5 +1,5 @@
 // The methods of the queue over a heap.
-ghost use Rattle.std.specs.Prelude.{◌≡◌, ◌+◌, ◌-◌, ◌<◌, min, true, false, [], ◌∷◌, length, replicate, Some, None, slice_index};
+ghost use Rattle.std.specs.Prelude.{◌≡◌, ◌+◌, ◌-◌, ◌<◌, min, true, false, [], ◌∷◌, length, replicate, Some, None, slice_index, slice_set};
 ghost use Rattle.std.specs.List.{slice_get, swap};
 ghost use Rattle.heap.specs.Heaps.{codes_held, heap_waits, heap_lender, parent, Good};
 ghost use Rattle.heap.specs.Places.{stands};
@@ -25,15 +25,16 @@ fn place_over(at: u32) -> u32
     (at - 1) / 2
 }
 
-// Exchanges the codes at two places, and what is noted for them.
-fn exchange(codes: &mut [u32], places: &mut [u32], i: usize, j: usize)
+// Exchanges the codes at two places, and notes the place of each. What was noted is written over unread: `places.swap` is slower.
+fn exchange(codes: &mut [u32], places: &mut [u32], i: u32, j: u32)
     requires inside { (i < length codes.old) × (j < length codes.old) }
     requires noted { (slice_index codes.old i < length places.old) × (slice_index codes.old j < length places.old) }
     ensures coded { codes.new ≡ swap codes.old i j }
-    ensures placed { places.new ≡ swap places.old (slice_index codes.old i) (slice_index codes.old j) }
+    ensures placed { places.new ≡ slice_set (slice_set places.old (slice_index codes.old j) i) (slice_index codes.old i) j }
 {
-    places.swap(codes[i] as usize, codes[j] as usize);
-    codes.swap(i, j);
+    places[codes[j as usize] as usize] = i;
+    places[codes[i as usize] as usize] = j;
+    codes.swap(i as usize, j as usize);
 }
 
 impl<'m, K: Cost> Heap<'m, K> {
@@ -114,7 +115,7 @@ impl<'m, K: Cost> Heap<'m, K> {
         requires inside { (i < self.old.len) × (j < self.old.len) }
         ensures { Exchanged self.old self.new i j }
     {
-        exchange(self.codes, self.places, i as usize, j as usize);
+        exchange(self.codes, self.places, i, j);
     }
 
     // Gives a code this key.
