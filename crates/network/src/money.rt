@@ -41,7 +41,8 @@ impl Cost for Money {
     }
 
     fn is_below(self, other: Money) -> bool {
-        self < other
+        // The amounts, and not `self < other`, by which a plan takes 8% longer.
+        self.amount < other.amount
     }
 
     fn bulk(self) -> u64 {
