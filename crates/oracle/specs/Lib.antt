@@ -1,1 +1,4 @@
 pub mod Costs
+pub mod Sets
+pub mod Questions
+pub mod Answers

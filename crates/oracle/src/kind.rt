@@ -3,6 +3,7 @@ ghost use Rattle.std.specs.Prelude.{◌≡◌, ℕ};
 
 use network::{Cost, CrossingsFirst, Money};
 
+// (`From` both ways would want an impl of two traits for each kind, and says nothing plainer.)
 pub trait Kind: Cost {
     // Crossings and money.
     ghost pair: { Self → ℕ × ℕ };

@@ -1,6 +1,7 @@
 // The members of a set that is a number, by rising number.
 ghost use Rattle.std.specs.Prelude.{◌≡◌};
 ghost use Rattle.std.specs.Iterator.{at_most};
+ghost use Rattle.oracle.specs.Sets.{least_of, without_least};
 
 #[derive(Drop)]
 pub struct Rising {
@@ -10,6 +11,8 @@ pub struct Rising {
 
 impl Iterator for Rising {
     type Item = usize;
+
+    ghost next_gives = { λ s r t. (r ≡ least_of s.left) × (t.left ≡ without_least s.left) };
 
     ghost remaining = { λ s. at_most s.left };
 

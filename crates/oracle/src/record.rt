@@ -1,6 +1,7 @@
 // A record of a district: what the rules say of each call, with nothing of the library. Each call answers with the
 // question that it fails, or it is noted.
 ghost use Rattle.std.specs.Prelude.{◌≡◌, cond, Ok, Err};
+ghost use Rattle.oracle.specs.Questions.{number_of};
 
 use crate::costs::{bit, has};
 use crate::kind::Kind;
@@ -29,6 +30,14 @@ pub enum Fails {
     NoLabelWaits,
     LimitReached,
     CodeBeyond,
+}
+
+impl Fails {
+    pub fn number(self) -> u8
+        ensures { result ≡ number_of self }
+    {
+        self as u8
+    }
 }
 
 // A question: where the answer is not yes, it is failed.

@@ -1,4 +1,8 @@
 // What an answer says, apart from the library's own types.
+ghost use Rattle.std.specs.Prelude.{◌≡◌, MatchResult};
+ghost use Rattle.oracle.specs.Answers.{question_of, turns_of, cost_of};
+ghost use Rattle.oracle.specs.declared.said.Said.TheVariants.{Done, Laid, Refused};
+
 use crate::costs::bit;
 use crate::kind::Kind;
 use crate::record::Fails;
@@ -11,12 +15,16 @@ pub struct Figure {
 }
 
 impl Figure {
-    pub fn of<K: Kind>(cost: K) -> Figure {
+    pub fn of<K: Kind>(cost: K) -> Figure
+        ensures { result ≡ record { crossings = (K.pair cost).0; money = (K.pair cost).1 } }
+    {
         let (crossings, money) = cost.parts();
         Figure { crossings, money }
     }
 
-    pub fn cost<K: Kind>(self) -> K {
+    pub fn cost<K: Kind>(self) -> K
+        ensures { (K.pair result).1 ≡ self.money }
+    {
         K::of(self.crossings, self.money)
     }
 }
@@ -39,7 +47,9 @@ pub enum Said {
 
 impl Said {
     // The question that was failed.
-    pub fn fails(self) -> Option<Fails> {
+    pub fn fails(self) -> Option<Fails>
+        ensures { result ≡ question_of self }
+    {
         match self {
             Said::Refused(fails) => Some(fails),
             Said::Unjoined(_) => Some(Fails::NoLabelWaits),
@@ -49,7 +59,9 @@ impl Said {
     }
 
     // How many turns a plan took.
-    pub fn turns(self) -> Option<u32> {
+    pub fn turns(self) -> Option<u32>
+        ensures { result ≡ turns_of self }
+    {
         match self {
             Said::Planned(turns, _, _) | Said::Unjoined(turns) | Said::Stopped(turns, _) => {
                 Some(turns)
@@ -59,15 +71,19 @@ impl Said {
     }
 
     // What a plan costs that was found.
-    pub fn cost<K: Kind>(self) -> Option<K> {
+    pub fn cost(self) -> Option<Figure>
+        ensures { result ≡ cost_of self }
+    {
         match self {
-            Said::Planned(_, cost, _) => Some(cost.cost()),
+            Said::Planned(_, cost, _) => Some(cost),
             _ => None,
         }
     }
 }
 
 impl From<Result<usize, Fails>> for Said {
+    ghost from_gives = { λ laid said. MatchResult laid (λ run. said ≡ Laid run) (λ fails. said ≡ Refused fails) };
+
     fn from(laid: Result<usize, Fails>) -> Said {
         match laid {
             Ok(run) => Said::Laid(run),
@@ -77,6 +93,8 @@ impl From<Result<usize, Fails>> for Said {
 }
 
 impl From<Result<(), Fails>> for Said {
+    ghost from_gives = { λ done said. MatchResult done (λ _. said ≡ Done) (λ fails. said ≡ Refused fails) };
+
     fn from(done: Result<(), Fails>) -> Said {
         match done {
             Ok(()) => Said::Done,

@@ -1,4 +1,6 @@
 // Distances, and the recurrence of Dreyfus and Wagner over them.
+ghost use Rattle.std.specs.Prelude.{◌≡◌, ◌+◌, ◌-◌, ◌*◌, ◌^◌, ◌<◌, slice_index_or};
+
 use crate::costs::{added, bit, has, holds, lesser};
 use crate::kind::Kind;
 use crate::members::members;
@@ -69,17 +71,23 @@ impl<K: Cost> Survey<K> {
     }
 
     // The first outlet, or junction 0 where there is none.
-    pub fn root(&self) -> usize {
+    pub fn root(&self) -> usize
+        ensures { result ≡ slice_index_or self.now.outlets.items 0 0 }
+    {
         self.outlets.first().copied().unwrap_or(0)
     }
 
     // The set of all outlets but the root.
-    pub fn all(&self) -> usize {
+    pub fn all(&self) -> usize
+        ensures { result ≡ self.now.sets - 1 }
+    {
         self.sets.saturating_sub(1)
     }
 
     // The code of a label.
-    pub fn code(&self, v: usize, set: usize) -> usize {
+    pub fn code(&self, v: usize, set: usize) -> usize
+        ensures { v * self.now.sets + set < 2 ^ 64 → result ≡ v * self.now.sets + set }
+    {
         cell(v, self.sets, set)
     }
 

@@ -1,5 +1,6 @@
 // Costs by two numbers, as a junction and a set, or two junctions.
-ghost use Rattle.std.specs.Prelude.{◌≡◌, ◌+◌, ◌*◌, ◌^◌, ◌<◌};
+ghost use Rattle.std.specs.Prelude.{◌≡◌, ◌+◌, ◌*◌, ◌^◌, ◌<◌, set as put, None, IfOk, slice_index_or, vec_len};
+ghost use Rattle.oracle.specs.Costs.{lesser_of};
 
 use crate::costs::{at, lower};
 use network::Cost;
@@ -26,18 +27,27 @@ impl<K: Cost> Table<K> {
         rows: usize,
         width: usize,
         cost: Option<K>,
-    ) -> Result<Table<K>, AllocError> {
+    ) -> Result<Table<K>, AllocError>
+        ensures width { IfOk result (λ t. t.width ≡ width) }
+        ensures places { rows * width < 2 ^ 64 → IfOk result (λ t. vec_len t.costs ≡ rows * width) }
+    {
         let costs = vec![in heap; cost; rows.saturating_mul(width)]?;
         Ok(Table { width, costs })
     }
 
     // What stands there, and none past the end.
-    pub fn at(&self, row: usize, column: usize) -> Option<K> {
+    pub fn at(&self, row: usize, column: usize) -> Option<K>
+        ensures { row * self.now.width + column < 2 ^ 64 → result ≡ slice_index_or self.now.costs.items (row * self.now.width + column) None }
+    {
         at(&self.costs, cell(row, self.width, column))
     }
 
     // The lesser of what stands there and `cost` stands there; nothing changes past the end.
-    pub fn lower(&mut self, row: usize, column: usize, cost: Option<K>) {
+    pub fn lower(&mut self, row: usize, column: usize, cost: Option<K>)
+        ensures width { self.new.width ≡ self.old.width }
+        ensures lowered { row * self.old.width + column < 2 ^ 64 → self.new.costs.items ≡
+            put self.old.costs.items (row * self.old.width + column) (lesser_of K.Cost.kind (slice_index_or self.old.costs.items (row * self.old.width + column) None) cost) }
+    {
         lower(&mut self.costs, cell(row, self.width, column), cost);
     }
 }

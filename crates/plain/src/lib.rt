@@ -1,6 +1,10 @@
 // Answers and plans of the library, as the oracle says them.
 #![tactic(auto)]
 
+ghost use Rattle.std.specs.Prelude.{◌≡◌};
+ghost use Rattle.network.specs.Numbers.{number_of as refusal_number};
+ghost use Rattle.oracle.specs.Questions.{number_of};
+
 use district::view::View;
 use estimate::Estimator;
 use labelling::{Label, Way};
@@ -13,8 +17,10 @@ use replay::Answer;
 use search::plan::plan;
 use search::{NoPlan, Plan};
 
-// The question of a refusal.
-pub fn fails_of(why: Refusal) -> Fails {
+// The question of a refusal: it has the same number.
+pub fn fails_of(why: Refusal) -> Fails
+    ensures { number_of result ≡ refusal_number why }
+{
     match why {
         Refusal::JunctionCount => Fails::JunctionCount,
         Refusal::RunCapacity => Fails::RunCapacity,

@@ -11,41 +11,48 @@ use std::alloc::Global;
 
 // A run by its ends and what it costs in money.
 #[derive(Clone, Copy)]
-pub struct Priced {
-    pub a: u64,
-    pub b: u64,
-    pub money: u64,
-}
+pub struct Priced(pub u64, pub u64, pub u64);
 
 // Four junctions, where the crossing 3 joins the outlets 0, 1 and 2.
-pub const STAR: [Priced; 5] = [Priced { a: 0, b: 3, money: 2 }, Priced { a: 1, b: 3, money: 2 }, Priced { a: 2, b: 3, money: 2 }, Priced { a: 0, b: 1, money: 3 }, Priced { a: 1, b: 2, money: 5 }];
+pub const STAR: [Priced; 5] = [
+    Priced(0, 3, 2),
+    Priced(1, 3, 2),
+    Priced(2, 3, 2),
+    Priced(0, 1, 3),
+    Priced(1, 2, 5),
+];
 
 // Four junctions with two ways from 1 to 0.
-pub const RING: [Priced; 4] = [Priced { a: 1, b: 2, money: 1 }, Priced { a: 2, b: 0, money: 10 }, Priced { a: 1, b: 3, money: 3 }, Priced { a: 3, b: 0, money: 3 }];
+pub const RING: [Priced; 4] = [
+    Priced(1, 2, 1),
+    Priced(2, 0, 10),
+    Priced(1, 3, 3),
+    Priced(3, 0, 3),
+];
 
 // Seven junctions, each two with a run of one or two.
 pub const SEVEN: [Priced; 21] = [
-    Priced { a: 0, b: 1, money: 2 },
-    Priced { a: 0, b: 2, money: 2 },
-    Priced { a: 0, b: 3, money: 2 },
-    Priced { a: 0, b: 4, money: 1 },
-    Priced { a: 0, b: 5, money: 1 },
-    Priced { a: 0, b: 6, money: 2 },
-    Priced { a: 1, b: 2, money: 2 },
-    Priced { a: 1, b: 3, money: 2 },
-    Priced { a: 1, b: 4, money: 2 },
-    Priced { a: 1, b: 5, money: 1 },
-    Priced { a: 1, b: 6, money: 2 },
-    Priced { a: 2, b: 3, money: 2 },
-    Priced { a: 2, b: 4, money: 2 },
-    Priced { a: 2, b: 5, money: 2 },
-    Priced { a: 2, b: 6, money: 1 },
-    Priced { a: 3, b: 4, money: 1 },
-    Priced { a: 3, b: 5, money: 2 },
-    Priced { a: 3, b: 6, money: 1 },
-    Priced { a: 4, b: 5, money: 2 },
-    Priced { a: 4, b: 6, money: 1 },
-    Priced { a: 5, b: 6, money: 1 },
+    Priced(0, 1, 2),
+    Priced(0, 2, 2),
+    Priced(0, 3, 2),
+    Priced(0, 4, 1),
+    Priced(0, 5, 1),
+    Priced(0, 6, 2),
+    Priced(1, 2, 2),
+    Priced(1, 3, 2),
+    Priced(1, 4, 2),
+    Priced(1, 5, 1),
+    Priced(1, 6, 2),
+    Priced(2, 3, 2),
+    Priced(2, 4, 2),
+    Priced(2, 5, 2),
+    Priced(2, 6, 1),
+    Priced(3, 4, 1),
+    Priced(3, 5, 2),
+    Priced(3, 6, 1),
+    Priced(4, 5, 2),
+    Priced(4, 6, 1),
+    Priced(5, 6, 1),
 ];
 
 // What a call must say, which is noted where it is taken; a plan changes nothing, and what it must say is not told.
@@ -99,7 +106,7 @@ pub fn ask_runs<K: Kind>(
     crossed: usize,
 ) -> Result<(), Fault> {
     for (i, run) in runs.iter().enumerate() {
-        let Priced { a, b, money } = *run;
+        let Priced(a, b, money) = *run;
         let cost = K::of(u64::from(i < crossed), money);
         ask(asked, Call::Lay { a, b, cost })?;
     }

@@ -1,7 +1,9 @@
 // The worked examples, and the numbers at the edges of the questions.
 ghost use Rattle.std.specs.Prelude.{◌≡◌};
 
-use crate::calls::{Priced, RING, SEVEN, STAR, ask, ask_marks, ask_runs, laid_out, plan_in, plan_within};
+use crate::calls::{
+    Priced, RING, SEVEN, STAR, ask, ask_marks, ask_runs, laid_out, plan_in, plan_within,
+};
 use crate::direct::examine_record;
 use crate::fault::{Fault, Wrong, hold};
 use crate::judge::judge;
@@ -232,11 +234,8 @@ fn seven(heap: Global, tally: &mut Tally) -> Result<(), Fault> {
     scripted(heap, &sequence, &[], tally)?;
     for outcome in every_way(heap, &sequence)?.iter() {
         if let Some(turn) = outcome.turns.last() {
-            let cost = read_answer(&turn.answer, &turn.row).cost::<Money>();
-            hold(
-                cost.is_some_and(|cost| cost.amount == 5),
-                Wrong::TheSevenJunctions,
-            )?;
+            let said = read_answer(&turn.answer, &turn.row);
+            hold(said.cost() == Some(euros(5)), Wrong::TheSevenJunctions)?;
         }
     }
     Ok(())
@@ -245,11 +244,11 @@ fn seven(heap: Global, tally: &mut Tally) -> Result<(), Fault> {
 // Costs and marks at the edges of their questions.
 fn edges(heap: Global, tally: &mut Tally) -> Result<(), Fault> {
     let runs = [
-        Priced { a: 0, b: 1, money: 0 },
-        Priced { a: 0, b: 1, money: 1_000_000 },
-        Priced { a: 0, b: 1, money: 1_000_001 },
-        Priced { a: 0, b: 13, money: 1 },
-        Priced { a: 2, b: 2, money: 1 },
+        Priced(0, 1, 0),
+        Priced(0, 1, 1_000_000),
+        Priced(0, 1, 1_000_001),
+        Priced(0, 13, 1),
+        Priced(2, 2, 1),
     ];
     let asked = laid_out::<Money>(heap, &runs, 13)?;
     let cases = [

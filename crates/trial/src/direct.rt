@@ -140,8 +140,8 @@ impl<'a, K: Kind> Examiner<'a, K> {
                 return Err(Fault::Wrong(Wrong::OneTurnLess));
             };
             hold(taken == turns - 1, Wrong::OneTurnLess)?;
-            let found: Option<K> = said.cost();
-            if let Some(cost) = found {
+            if let Some(cost) = said.cost() {
+                let cost: K = cost.cost();
                 hold(!cost.is_below(floor.cost()), Wrong::TheFloorOfOneTurnLess)?;
             }
         }
@@ -167,7 +167,8 @@ impl<'a, K: Kind> Examiner<'a, K> {
         if cost.is_none() {
             hold(said == Said::Unjoined(turns), Wrong::NoLabelWaits)?;
         } else {
-            hold(alike(cost, said.cost()), Wrong::TheCostOfAPlan)?;
+            let found = said.cost().map(|cost| cost.cost());
+            hold(alike(cost, found), Wrong::TheCostOfAPlan)?;
         }
         self.judge_limits(&view, turns, said, queue, estimator, tally)
     }

@@ -57,14 +57,20 @@ impl<K: Kind> Standard<'_, K> {
     fn judge_found(&self, limit: u32, turns: u32, cost: K, row: &[u8]) -> Result<(), Fault> {
         hold(alike(self.least, Some(cost)), Wrong::TheLeastCost)?;
         hold(turns <= limit, Wrong::TheCountOfAPlan)?;
-        hold(turns as usize <= self.record.turns(), Wrong::TheTurnsOfAPlan)?;
+        hold(
+            turns as usize <= self.record.turns(),
+            Wrong::TheTurnsOfAPlan,
+        )?;
         self.judge_row(Some(cost), row)
     }
 
     // A plan that was stopped: it has taken all turns, which do not suffice, and nothing that joins is below the floor.
     fn judge_stopped(&self, limit: u32, turns: u32, floor: K) -> Result<(), Fault> {
         hold(turns == limit, Wrong::TheCountAtTheLimit)?;
-        hold((limit as usize) < self.record.turns(), Wrong::ALimitThatSuffices)?;
+        hold(
+            (limit as usize) < self.record.turns(),
+            Wrong::ALimitThatSuffices,
+        )?;
         match self.least {
             None => Ok(()),
             Some(cost) => hold(!cost.is_below(floor), Wrong::TheFloor),
@@ -137,10 +143,8 @@ fn judge_making<K: Kind>(
         count(&mut tally.calls);
         if let Err(fails) = making {
             tally.refuse(fails);
-            let untried = outcome
-                .turns
-                .iter()
-                .all(|turn| read_answer(&turn.answer, &turn.row) == Said::Untried);
+            let untried = outcome.turns.iter().all(|turn| read_answer(&turn.answer, &turn.row)
+                == Said::Untried);
             hold(untried, Wrong::ATurnOfNoDistrict)?;
         }
     }
