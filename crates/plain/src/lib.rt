@@ -7,13 +7,13 @@ ghost use Rattle.oracle.specs.Questions.{number_of};
 
 use district::view::View;
 use estimate::Estimator;
-use labelling::{Label, Way};
+use labelling::Desk;
 use network::{Cost, Refusal};
 use oracle::kind::Kind;
 use oracle::record::Fails;
 use oracle::said::{Figure, Said, dug};
 use queue::Queue;
-use replay::Answer;
+use replay::Reply;
 use search::plan::plan;
 use search::{NoPlan, Plan};
 
@@ -52,27 +52,26 @@ fn read_plan<K: Kind>(res: Result<Plan<K>, NoPlan<K>>, row: &[u8]) -> Said {
     }
 }
 
-pub fn read_answer<K: Kind>(answer: &Answer<K>, row: &[u8]) -> Said {
+pub fn read_answer<K: Kind>(answer: &Option<Result<Reply<K>, NoPlan<K>>>, row: &[u8]) -> Said {
     match answer {
-        Answer::Untried => Said::Untried,
-        Answer::Laid(run) => Said::Laid(*run as usize),
-        Answer::Done => Said::Done,
-        Answer::Refused(why) => Said::Refused(fails_of(*why)),
-        Answer::Planned(plan) => read_plan(Ok(*plan), row),
-        Answer::NotPlanned(why) => read_plan(Err(*why), row),
+        None => Said::Untried,
+        Some(Ok(Reply::Laid(run))) => Said::Laid(*run as usize),
+        Some(Ok(Reply::Done)) => Said::Done,
+        Some(Ok(Reply::Planned(plan))) => read_plan(Ok(*plan), row),
+        Some(Err(why)) => read_plan(Err(*why), row),
     }
 }
 
 // What a plan says that is made with no sequence around it.
-pub fn plan_once<K: Kind, Q: Queue<Cost = K>, E: Estimator<Cost = K>>(
-    view: &View<'_, K>,
+pub fn plan_once<Q: Queue, E: Estimator<Cost = Q::Cost>>(
+    view: &View<'_, Q::Cost>,
     limit: u32,
-    labels: &mut [Label<K>],
-    ways: &mut [Way],
-    queue: &mut Q,
-    estimator: &mut E,
+    desk: &mut Desk<'_, Q, E>,
     row: &mut [u8],
-) -> Said {
-    let result = plan(view, limit, labels, ways, queue, estimator, row);
+) -> Said
+where
+    Q::Cost: Kind,
+{
+    let result = plan(view, limit, desk, row);
     read_plan(result, &*row)
 }

@@ -7,7 +7,7 @@ use district::view::View;
 use estimate::{Estimator, Larger, Silent};
 use farthest::Farthest;
 use heap::Heap;
-use labelling::{Label, Way};
+use labelling::{Desk, Label, Way};
 use network::Cost;
 use oracle::costs::{added, alike, at, has};
 use oracle::kind::Kind;
@@ -88,8 +88,9 @@ impl<'a, K: Kind> Examiner<'a, K> {
                 let code = self.survey.code(v, set);
                 if let (Some(label), Some(way)) = (labels.get(code), ways.get(code)) {
                     if way.turn > 0 {
-                        let cost = Some(label.cost);
-                        hold(alike(self.table.at(v, set), cost), Wrong::TheCostOfALabel)?;
+                        let cost = *label;
+                        let same = alike(self.table.at(v, set), cost);
+                        hold(cost.is_some() && same, Wrong::TheCostOfALabel)?;
                         count(&mut tally.labels);
                     }
                 }
@@ -109,15 +110,13 @@ impl<'a, K: Kind> Examiner<'a, K> {
     ) -> Result<Said, Fault> {
         let (mut labels, mut ways) = label_rows(self.heap, LABELS)?;
         let mut row = vec![in self.heap; 0u8; view.runs.len()]?;
-        let said = plan_once(
-            view,
-            limit,
-            &mut labels,
-            &mut ways,
+        let mut desk = Desk {
+            labels: &mut labels,
+            ways: &mut ways,
             queue,
             estimator,
-            &mut row,
-        );
+        };
+        let said = plan_once(view, limit, &mut desk, &mut row);
         self.judge_labels(&labels, &ways, tally)?;
         Ok(said)
     }

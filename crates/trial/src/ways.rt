@@ -4,12 +4,12 @@ use district::district::Memory;
 use estimate::{Estimator, Larger, Silent};
 use farthest::Farthest;
 use heap::Heap;
-use labelling::{Back, Label, Way};
+use labelling::{Back, Desk, Label, Way};
 use network::{Cost, Run};
 use oracle::record::Fails;
 use plain::fails_of;
 use queue::{Queue, Row};
-use replay::{Answer, Call, Turn, replay};
+use replay::{Call, Turn, replay};
 use std::alloc::Global;
 
 // The places for labels that are lent: seven junctions with seven outlets.
@@ -56,9 +56,7 @@ pub fn label_rows<K: Cost>(
     heap: Global,
     places: usize,
 ) -> Result<(Vec<Label<K>>, Vec<Way>), Fault> {
-    let reached = true;
-    let cost = K::zero();
-    let labels = vec![in heap; Label { reached, cost }; places]?;
+    let labels = vec![in heap; Some(K::zero()); places]?;
     let turn = 5;
     let back = Back::Fork(1);
     let ways = vec![in heap; Way { turn, back }; places]?;
@@ -71,7 +69,7 @@ fn turns_of<K: Cost>(heap: Global, asked: &[Asked<K>]) -> Result<Vec<Turn<K>>, F
     for one in asked {
         let call = one.call;
         let row = vec![in heap; UNTOUCHED; one.row]?;
-        let answer = Answer::Untried;
+        let answer = None;
         turns.push(Turn { call, answer, row })?;
     }
     Ok(turns)
@@ -88,15 +86,13 @@ fn tried<Q: Queue, E: Estimator<Cost = Q::Cost>>(
     let memory = run_rows(heap, sequence.capacity)?;
     let (mut labels, mut ways) = label_rows(heap, LABELS)?;
     let mut turns = turns_of(heap, &sequence.asked)?;
-    let making = match replay(
-        sequence.junctions,
-        memory,
-        &mut turns,
-        &mut labels,
-        &mut ways,
+    let mut desk = Desk {
+        labels: &mut labels,
+        ways: &mut ways,
         queue,
         estimator,
-    ) {
+    };
+    let making = match replay(sequence.junctions, memory, &mut turns, &mut desk) {
         Ok(_) => Ok(()),
         Err(unmade) => Err(fails_of(unmade.why)),
     };

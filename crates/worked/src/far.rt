@@ -4,7 +4,7 @@ use crate::plans::{WAY, mark_all, money_star, star};
 use district::district::District;
 use farthest::Farthest;
 use heap::Heap;
-use labelling::Label;
+use labelling::Desk;
 use network::{Cost, CrossingsFirst};
 use search::plan::plan;
 use search::{NoPlan, Plan};
@@ -19,25 +19,19 @@ fn planned<K: Cost>(
     other: K,
     answer: &mut [u8],
 ) -> Result<Result<Plan<K>, NoPlan<K>>, AllocError> {
-    let reached = true;
-    let cost = other;
-    let mut labels = vec![in heap; Label { reached, cost }; 16]?;
+    let mut labels = vec![in heap; Some(other); 16]?;
     let mut ways = [WAY; 16];
     let mut keys = vec![in heap; other; 16]?;
     let mut codes = [7u32; 16];
     let mut places = [7u32; 16];
     let mut distances = vec![in heap; Some(other); 48]?;
-    let mut queue = Heap::over(&mut keys, &mut codes, &mut places);
-    let mut farthest = Farthest::over(&mut distances);
-    Ok(plan(
-        &d.view(),
-        limit,
-        &mut labels,
-        &mut ways,
-        &mut queue,
-        &mut farthest,
-        answer,
-    ))
+    let mut desk = Desk {
+        labels: &mut labels,
+        ways: &mut ways,
+        queue: Heap::over(&mut keys, &mut codes, &mut places),
+        estimator: Farthest::over(&mut distances),
+    };
+    Ok(plan(&d.view(), limit, &mut desk, answer))
 }
 
 #[test]

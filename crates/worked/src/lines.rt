@@ -21,7 +21,10 @@ fn odd_lines(rt: HostRuntime) {
     let most = 18_446_744_073_709_551_615;
     assert_eq!(rt; read_line(b"mark 18446744073709551615"), mark(most));
     assert_eq!(rt; read_line(b"mark 18446744073709551616"), mark(most));
-    assert_eq!(rt; read_line(b"mark 123456789012345678901234567890"), mark(most));
+    assert_eq!(rt;
+        read_line(b"mark 123456789012345678901234567890"),
+        mark(most)
+    );
 }
 
 #[test]

@@ -2,7 +2,7 @@
 use crate::districts::{euros, memory};
 use district::district::District;
 use estimate::Silent;
-use labelling::{Back, Label, Way};
+use labelling::{Back, Desk, Way};
 use network::{Cost, Money};
 use queue::Row;
 use search::plan::plan;
@@ -54,24 +54,16 @@ fn planned(
     places: usize,
     answer: &mut [u8],
 ) -> Result<Plan<Money>, NoPlan<Money>> {
-    let mut labels = [Label {
-        reached: true,
-        cost: euros(77),
-    }; 16];
+    let mut labels = [Some(euros(77)); 16];
     let mut ways = [WAY; 16];
     let mut waiting = [Some(euros(1)); 16];
-    let mut queue = Row::over(&mut waiting);
-    let mut silent = Silent::new();
-    let places = places.min(16);
-    plan(
-        &d.view(),
-        limit,
-        &mut labels[0..places],
-        &mut ways,
-        &mut queue,
-        &mut silent,
-        answer,
-    )
+    let mut desk = Desk {
+        labels: &mut labels[..places.min(16)],
+        ways: &mut ways,
+        queue: Row::over(&mut waiting),
+        estimator: Silent::new(),
+    };
+    plan(&d.view(), limit, &mut desk, answer)
 }
 
 // The number of the refusal, and its count and its floor where it has them.
