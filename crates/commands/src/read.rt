@@ -58,6 +58,7 @@ fn read_reprice(mut line: Words<'_>) -> Option<Command>
     line.whole(Command::Call(Call::Reprice { run, cost }))
 }
 
+// (Four that differ in their call, as their clauses do: by a closure `close_of` would be named nowhere.)
 fn read_close(mut line: Words<'_>) -> Option<Command>
     ensures { result ≡ close_of (words_left line.entry) }
 {

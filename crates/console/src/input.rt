@@ -33,6 +33,7 @@ fn read_file(rt: &HostRuntime, name: String) -> Result<Vec<u8>, Fault> {
     }
 }
 
+// (`From` would have no name to carry.)
 fn unread(e: io::Error, name: String) -> Fault {
     match e.kind() {
         io::ErrorKind::OutOfMemory => Fault::Memory,

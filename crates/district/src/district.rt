@@ -19,6 +19,7 @@ pub struct District<K: Cost> {
     junctions: Junction,
     laid: RunNumber,
     // Two rows, as they were brought: a search can be lent other marks beside the same runs, and the shorter row is the capacity.
+    // They are the caller's memory and go back at full length, so a count says how many are runs.
     // The run records: the first `laid` are the runs.
     runs: Vec<Run<K>>,
     // The open marks: run i is open if the i-th says so.

@@ -11,7 +11,7 @@ pub struct View<'v, K> {
     pub junctions: Junction,
     // The runs laid.
     pub runs: &'v [Run<K>],
-    // Run i is open if the i-th mark says so.
+    // Run i is open if the i-th mark says so: a row of its own, as the district keeps it.
     pub open: &'v [bool],
     // The outlets, by rising number.
     pub outlets: &'v [Junction],

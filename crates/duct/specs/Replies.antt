@@ -1,6 +1,5 @@
 -- What a line gets. Assumes nothing.
 use Rattle.std.specs.Prelude.{◌≡◌, ℕ, Some, None, Ok, Err, Option}
-use Rattle.network.specs.Numbers.{number_of}
 use Rattle.text.specs.declared.command.Command.{Command}
 use Rattle.text.specs.declared.command.Command.TheVariants.{Nothing, District, Call}
 use Rattle.duct.specs.declared.answer.Answer.{Answer}
@@ -13,7 +12,7 @@ use Rattle.duct.specs.Sites.{Started, Answered}
 -- a new district was asked for: it stands at hand, or none does
 abbrev pub Opened : ℕ → ℕ → Answer → Option Site → Type 0
 Opened n capacity r (Some s) = (r ≡ Made n capacity) × Started n capacity (Ok s)
-Opened n capacity r None = (why : _) × (r ≡ Refused (number_of why)) × Started n capacity (Err why)
+Opened n capacity r None = (why : _) × (r ≡ Refused why) × Started n capacity (Err why)
 
 -- what a line gets by what it says, with the district at hand before and after it
 abbrev pub Replied : Option Command → Option Site → Reply → Option Site → Type 0

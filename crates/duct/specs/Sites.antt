@@ -3,12 +3,11 @@ use Rattle.std.specs.Prelude.{◌≡◌, ℕ, min, cond, Some, None, Ok, Err, Op
 use Rattle.network.specs.declared.money.Money.{Money}
 use Rattle.network.specs.declared.refusal.Refusal.{Refusal}
 use Rattle.network.specs.Money.{money_kind, of_amount}
-use Rattle.network.specs.Numbers.{number_of}
 use Rattle.district.specs.Model.{Model, model_of, make_answer, lay_answer, after_lay, mark_answer, after_mark}
 use Rattle.text.specs.declared.command.Call.{Call}
 use Rattle.text.specs.declared.command.Call.TheVariants.{Lay, Mark, Plan, Dug}
 use Rattle.duct.specs.declared.answer.Answer.{Answer}
-use Rattle.duct.specs.declared.answer.Answer.TheVariants.{Made, Laid, Marked, Planned, Unjoined, Stopped, Refused, Agrees, Differs, NotPlanned}
+use Rattle.duct.specs.declared.answer.Answer.TheVariants.{Made, Laid, Marked, Planned, Unplanned, Refused, Agrees, Differs, NotPlanned}
 use Rattle.duct.specs.declared.site.Site.{Site}
 
 -- the abstract district of a site
@@ -27,11 +26,11 @@ compared (Some planned) cost = cond (planned == cost) (Agrees cost) (Differs cos
 
 abbrev pub lay_said : Result ℕ Refusal → Answer
 lay_said (Ok run) = Laid run
-lay_said (Err why) = Refused (number_of why)
+lay_said (Err why) = Refused why
 
 abbrev pub mark_said : ℕ → Result (Unit {0}) Refusal → Answer
 mark_said j (Ok _) = Marked j
-mark_said j (Err why) = Refused (number_of why)
+mark_said j (Err why) = Refused why
 
 -- the cost that a plan's answer says, if it was not refused
 abbrev pub cost_said : Answer → Option ℕ
@@ -39,9 +38,8 @@ cost_said (Planned cost row count) = Some cost
 cost_said (Made n capacity) = None
 cost_said (Laid run) = None
 cost_said (Marked j) = None
-cost_said (Unjoined count) = None
-cost_said (Stopped count floor) = None
-cost_said (Refused number) = None
+cost_said (Unplanned why) = None
+cost_said (Refused why) = None
 cost_said (Agrees cost) = None
 cost_said (Differs cost planned) = None
 cost_said (NotPlanned cost) = None

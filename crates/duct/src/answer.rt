@@ -1,5 +1,7 @@
 // What the program answers.
 use console::Marked;
+use network::{Money, Refusal};
+use search::NoPlan;
 use std::fmt;
 
 #[derive(Drop)]
@@ -9,9 +11,8 @@ pub enum Answer {
     Marked(u64),
     // A plan's cost, a byte for each run laid, and its turns.
     Planned { cost: u64, row: Vec<u8>, count: u32 },
-    Unjoined { count: u32 },
-    Stopped { count: u32, floor: u64 },
-    Refused(u8),
+    Unplanned(NoPlan<Money>),
+    Refused(Refusal),
     Agrees(u64),
     Differs { cost: u64, planned: u64 },
     NotPlanned(u64),
@@ -33,11 +34,8 @@ impl fmt::Display for Answer {
                 let runs = Marked { row };
                 write!(f, "cost {cost}, runs{runs}, count {count}")
             }
-            Answer::Unjoined { count } => write!(f, "refused 18, count {count}"),
-            Answer::Stopped { count, floor } => {
-                write!(f, "refused 19, count {count}, floor {floor}")
-            }
-            Answer::Refused(number) => write!(f, "refused {number}"),
+            Answer::Unplanned(why) => write!(f, "{why}"),
+            Answer::Refused(why) => write!(f, "{why}"),
             Answer::Agrees(cost) => write!(f, "dug {cost}: agrees"),
             Answer::Differs { cost, planned } => {
                 write!(f, "dug {cost}: differs, planned {planned}")

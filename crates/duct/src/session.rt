@@ -57,7 +57,7 @@ impl Session {
                     capacity,
                 })
             }
-            Err(why) => Ok(Answer::Refused(why.number())),
+            Err(why) => Ok(Answer::Refused(why)),
         }
     }
 }

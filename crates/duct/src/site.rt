@@ -8,7 +8,6 @@ use crate::answer::Answer;
 use crate::planner::plan_view;
 use district::district::{District, Memory};
 use network::{Money, Refusal, Run, RunNumber};
-use search::NoPlan;
 use std::alloc::{AllocError, Global};
 use text::{Call, PlanWords};
 
@@ -22,7 +21,7 @@ pub struct Site {
     planned: Option<u64>,
 }
 
-// What was paid for a trench, beside what was planned.
+// What was paid for a trench, beside what was planned. (`morning` compares too, in any kind of cost, and counts.)
 fn compare(planned: Option<u64>, cost: u64) -> Answer
     ensures { result ≡ compared planned cost }
 {
@@ -68,11 +67,11 @@ impl Site {
         match call {
             Call::Lay { a, b, cost } => match self.lay(a, b, cost) {
                 Ok(run) => Ok(Answer::Laid(run)),
-                Err(why) => Ok(Answer::Refused(why.number())),
+                Err(why) => Ok(Answer::Refused(why)),
             },
             Call::Mark { junction } => match self.mark(junction) {
                 Ok(()) => Ok(Answer::Marked(junction)),
-                Err(why) => Ok(Answer::Refused(why.number())),
+                Err(why) => Ok(Answer::Refused(why)),
             },
             Call::Plan(said) => self.plan(heap, said),
             Call::Dug { cost } => Ok(compare(self.planned, cost)),
@@ -108,12 +107,7 @@ impl Site {
                 let row = drawing.row;
                 Ok(Answer::Planned { cost, row, count })
             }
-            Err(NoPlan::Unjoined(count)) => Ok(Answer::Unjoined { count }),
-            Err(NoPlan::Stopped(count, floor)) => Ok(Answer::Stopped {
-                count,
-                floor: floor.amount,
-            }),
-            Err(NoPlan::Refused(why)) => Ok(Answer::Refused(why.number())),
+            Err(why) => Ok(Answer::Unplanned(why)),
         }
     }
 }

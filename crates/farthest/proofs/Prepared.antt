@@ -1,5 +1,5 @@
 -- What a view brings to the bound, and how the estimator's memory holds it. Assumes nothing.
-use Rattle.std.proofs.Common.{◌≡◌, ℕ, zero, suc, ◌+◌, ◌-◌, ◌*◌, ◌^◌, ◌<◌, ◌≤◌, min, Bool, true, false, cond, ltb, List, [], ◌∷◌, length, get_or, take, None, Option, unwrap_or, sym, refl, ap, ◌∙◌, subst, inl, inr, arith}
+use Rattle.std.proofs.Common.{◌≡◌, ℕ, zero, suc, ◌+◌, ◌-◌, ◌*◌, ◌^◌, ◌<◌, ◌≤◌, Bool, true, false, cond, ltb, List, [], ◌∷◌, length, get_or, take, None, Option, unwrap_or, sym, refl, ap, ◌∙◌, subst, inl, inr, arith}
 use Rattle.std.proofs.lemmas.List.{get_or-take}
 use Rattle.std.proofs.lemmas.Bool.{ltb-true, le-ltb, cond-false}
 use Rattle.network.specs.Bounds.{Lawful}
@@ -73,13 +73,10 @@ module _ {K : Type 0} {kind : Kind K} (laws : Laws kind) where
 
     -- the bound that the row holds
     abbrev held : ℕ → ℕ → K
-    held v I = far_bound kind l.junctions (min (length l.outlets) 12) (in_row row) v I
-
-    long : min (length l.outlets) 12 ≡ length l.outlets
-    long = omega arith
+    held v I = far_bound kind l.junctions (length l.outlets) (in_row row) v I
 
     held_is : (v I : ℕ) → held v I ≡ far_bound kind l.junctions (length l.outlets) left v I
-    held_is v I = bound_same l.junctions (min (length l.outlets) 12) row v I (omega arith) ∙ (λ i. far_bound kind l.junctions (long i) (in_row (made i)) v I)
+    held_is v I = bound_same l.junctions (length l.outlets) row v I few ∙ (λ i. far_bound kind l.junctions (length l.outlets) (in_row (made i)) v I)
 
     pub prepared_far : (Priced kind l.runs → Facts kind l) → Far kind l held
     prepared_far facts = record { distances = left; measured = λ p. found_measured laws l (facts p); is = held_is }
@@ -88,7 +85,7 @@ module _ {K : Type 0} {kind : Kind K} (laws : Laws kind) where
     prepared facts = record {
       lawful = λ p. subst (Lawful kind l) (λ i v I. sym (held_is v I) i) (found_lawful laws l (facts p));
       no_junction = λ v I h. cond-false (ltb v l.junctions) _ _ (le-ltb v l.junctions h);
-      no_set = λ v I h. let e : 2 ^ (min (length l.outlets) 12 - 1) ≤ I = subst (λ m. 2 ^ (m - 1) ≤ I) (sym long) h in
-          ap (λ x. cond (ltb v l.junctions) x kind.zero) (cond-false (ltb I (2 ^ (min (length l.outlets) 12 - 1))) _ _ (le-ltb I (2 ^ (min (length l.outlets) 12 - 1)) e)) ∙ same_either (ltb v l.junctions);
+      no_set = λ v I h.
+          ap (λ x. cond (ltb v l.junctions) x kind.zero) (cond-false (ltb I (2 ^ (length l.outlets - 1))) _ _ (le-ltb I (2 ^ (length l.outlets - 1)) h)) ∙ same_either (ltb v l.junctions);
       no_outlet = λ v I h. held_is v I ∙ (ap (λ m. far_bound kind l.junctions m left v I) h ∙ (ap (λ x. cond (ltb v l.junctions) x kind.zero) (same_either (ltb I 1)) ∙ same_either (ltb v l.junctions)));
     }

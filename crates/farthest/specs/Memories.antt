@@ -1,5 +1,5 @@
 -- What the estimator by the farthest outlet means, by what it holds. Assumes nothing.
-use Rattle.std.specs.Prelude.{ℕ, ◌+◌, ◌*◌, ◌/◌, min, Bool, ◌&&◌, List, [], ◌∷◌, length, None, Option, nat_le, slice_index_or}
+use Rattle.std.specs.Prelude.{ℕ, ◌+◌, ◌*◌, ◌/◌, Bool, ◌&&◌, List, [], ◌∷◌, length, None, Option, nat_le, slice_index_or}
 use Rattle.network.specs.Costs.{Kind}
 use Rattle.farthest.specs.declared.farthest.Farthest.{Farthest}
 use Rattle.farthest.specs.Distances.{Distances, far_bound}
@@ -8,9 +8,9 @@ use Rattle.farthest.specs.Distances.{Distances, far_bound}
 abbrev pub in_row : {K : Type 0} → List (Option K) → Distances K
 in_row row v j = slice_index_or row (v * 12 + j) None
 
--- the bound that an estimator has: it never has more than twelve outlets
+-- the bound that an estimator has, of its junctions, outlets and distances
 abbrev pub bound_of : {K : Type 0} → Kind K → Farthest K → ℕ → ℕ → K
-bound_of kind f v I = far_bound kind f.junctions (min f.outlets 12) (in_row f.distances.now) v I
+bound_of kind f v I = far_bound kind f.junctions (f.outlets) (in_row f.distances.now) v I
 
 -- so many places have room for twelve outlets, and for a junction for each twelve of them
 abbrev pub has_room : ℕ → ℕ → ℕ → Bool

@@ -1,14 +1,16 @@
 // The greatest distance to an outlet that is not yet reached. Its calls stand in `calls`.
 pub mod calls;
 
+ghost use Rattle.std.specs.Prelude.{◌≤◌};
+
 use network::Junction;
 
-// What a `&mut` refers to cannot be lent out of a struct that has a ghost field, so this one has none.
 #[derive(Drop)]
 pub struct Farthest<'m, K> {
-    // The distance of junction v to the j-th outlet stands at v × 12 + j.
+    // The distance of junction v to the j-th outlet stands at v × 12 + j: one flat row, as the caller lends it.
     distances: &'m mut [Option<K>],
     // How many there are in the district that it was last prepared for.
     junctions: Junction,
     outlets: usize,
+    ghost few: { outlets ≤ 12 },
 }

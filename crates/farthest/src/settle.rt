@@ -36,6 +36,7 @@ fn try_run<K: Cost>(ds: &mut [Option<K>], run: &Run<K>, count: usize) -> bool
     ensures still { result ≡ false → ds.new ≡ ds.old }
 {
     let mut changed = false;
+    // By the number: each trial reads one place of the row and writes another.
     for j in 0..count {
         let a = run.a as usize * MOST_OUTLETS + j;
         let b = run.b as usize * MOST_OUTLETS + j;

@@ -9,8 +9,9 @@ mod tests;
 ghost use Rattle.std.specs.Prelude.{◌^◌, ◌<◌, ◌≤◌, length};
 ghost use Rattle.heap.specs.Places.{Found};
 
-// All memory is the caller's, so these are lent slices with a count beside them. The order of the codes is no field: it does not
-// hold while a code rises or sinks, and a field that speaks of it would ask for a kind of cost wherever the type is named.
+// All memory is the caller's, so these are lent slices with a count beside them, kept as they were lent: the capacity is no row's
+// length. Keys and places are two rows, since pairs would take four more of the forty bytes that the C interface asks for each place.
+// The order of the codes is no field: it does not hold while a code rises or sinks.
 #[derive(Drop)]
 pub struct Heap<'m, K> {
     // How many codes there are; they are kept in 32 bits.

@@ -11,7 +11,8 @@ use network::Cost;
 use queue::Queue;
 
 // What a search is lent: rows for labels and their ways back, a queue, and an estimator. Either of the last two may
-// be lent as a `&mut`.
+// be lent as a `&mut`. Its rows and its queue may hold anything before a search, so that they fit is a clause of each step
+// (`Fit`, `Kept`), and no field.
 #[derive(Drop)]
 pub struct Desk<'m, Q: Queue, E> {
     // Two rows, and not one of pairs: drawing reads the ways back alone, which hold no costs.
@@ -23,7 +24,7 @@ pub struct Desk<'m, Q: Queue, E> {
 
 impl<'m, Q: Queue, E: Estimator<Cost = Q::Cost>> Desk<'m, Q, E> {
     // What the label at a code costs; zero where it is not reached.
-    pub(crate) fn cost_of(&self, code: usize) -> Q::Cost
+    pub fn cost_of(&self, code: usize) -> Q::Cost
         requires { code < length self.now.labels.now }
         ensures { result ≡ unwrap_or (label_at (tables_on self.now) code) Q.Cost.Cost.kind.zero }
     {

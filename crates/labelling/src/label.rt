@@ -24,6 +24,7 @@ fn bit(i: usize) -> u16
     1 << i
 }
 
+// (Labels and ways back are cleared by two functions: that a clone is the value is not known of any `Copy`.)
 fn wipe_labels<K: Cost>(labels: &mut [Label<K>], count: usize)
     requires { count ≤ length labels.old }
     ensures { labels.new ≡ wiped count None labels.old }

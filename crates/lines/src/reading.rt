@@ -32,6 +32,7 @@ pub fn read_parts<P: Parts>(said: P, mut line: Words<'_>) -> Option<P>
     ensures { result ≡ parts P.with_part (words_left line.entry) said }
 {
     let mut said = said;
+    // Two words a turn, so no `for`.
     while let Some(name) = line.next() {
         let value = line.next()?;
         said = said.with(name, value)?;

@@ -33,9 +33,14 @@ impl From<Result<Plan<Money>, Unsolved>> for Found {
         let (cost, count, number) = match said {
             Ok(plan) => (plan.cost.amount, plan.count, 0),
             Err(Unsolved::Memory) => (0, 0, u32::MAX),
-            Err(Unsolved::NoPlan(NoPlan::Refused(why))) => (0, 0, why.number() as u32),
-            Err(Unsolved::NoPlan(NoPlan::Unjoined(count))) => (0, count, 18),
-            Err(Unsolved::NoPlan(NoPlan::Stopped(count, floor))) => (floor.amount, count, 19),
+            Err(Unsolved::NoPlan(why)) => {
+                let number = why.number() as u32;
+                match why {
+                    NoPlan::Refused(_) => (0, 0, number),
+                    NoPlan::Unjoined(count) => (0, count, number),
+                    NoPlan::Stopped(count, floor) => (floor.amount, count, number),
+                }
+            }
         };
         Found {
             cost,

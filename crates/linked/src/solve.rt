@@ -2,10 +2,10 @@
 ghost use Rattle.std.specs.Prelude.{◌≡◌, length, MatchOption};
 ghost use Rattle.network.specs.Money.{money_kind};
 ghost use Rattle.district.specs.Model.{model_of, seen};
-ghost use Rattle.heap.specs.Heaps.{codes_held};
+ghost use Rattle.heap.specs.Heaps.{heap_waits};
 ghost use Rattle.farthest.specs.Distances.{Far};
-ghost use Rattle.farthest.specs.Memories.{has_room};
-ghost use Rattle.replay.specs.Calls.{desk};
+ghost use Rattle.farthest.specs.Memories.{room_for};
+ghost use Rattle.replay.specs.Calls.{offered};
 ghost use Rattle.replay.specs.Sequence.{Asked};
 ghost use Rattle.linked.specs.Lists.{desk_of, answer_of, Solved};
 
@@ -24,28 +24,17 @@ use std::alloc::Global;
 // Twelve places for each of 1,024 junctions.
 const DISTANCES: usize = 12_288;
 
-// A plan over lent rows.
-fn plan_over(
+// A plan on a desk with a heap and the farthest outlet.
+fn plan_on(
     district: &District<Money>,
     limit: u32,
-    labels: &mut [Label<Money>],
-    ways: &mut [Way],
-    keys: &mut [Money],
-    codes: &mut [u32],
-    places: &mut [u32],
-    distances: &mut [Option<Money>],
+    desk: &mut Desk<'_, Heap<'_, Money>, Farthest<'_, Money>>,
     row: &mut [u8],
 ) -> Result<Plan<Money>, NoPlan<Money>>
-    ensures { Asked money_kind (Far money_kind) (desk (length labels.old) (length ways.old) (codes_held keys.old codes.old places.old) (has_room (length distances.old))) (seen (model_of district.now)) limit row.old row.new result }
+    ensures { Asked money_kind (Far money_kind) (offered heap_waits room_for desk.old) (seen (model_of district.now)) limit row.old row.new result }
 {
-    let mut desk = Desk {
-        labels,
-        ways,
-        queue: Heap::over(keys, codes, places),
-        estimator: Farthest::over(distances),
-    };
     let view = district.view();
-    plan(&view, limit, &mut desk, row)
+    plan(&view, limit, desk, row)
 }
 
 // A plan with so many places for labels.
@@ -70,21 +59,17 @@ fn plan_with(
     let mut codes = vec![in heap; 0u32; places]?;
     let mut by_code = vec![in heap; 0u32; places]?;
     let mut distances = vec![in heap; None; DISTANCES]?;
-    let plan = plan_over(
-        district,
-        limit,
-        &mut labels,
-        &mut ways,
-        &mut keys,
-        &mut codes,
-        &mut by_code,
-        &mut distances,
-        row,
-    )?;
+    let mut desk = Desk {
+        labels: &mut labels,
+        ways: &mut ways,
+        queue: Heap::over(&mut keys, &mut codes, &mut by_code),
+        estimator: Farthest::over(&mut distances),
+    };
+    let plan = plan_on(district, limit, &mut desk, row)?;
     Ok(plan)
 }
 
-// Makes a district with room for the streets, lays them, marks the outlets and plans.
+// Makes a district with room for the streets, lays them, marks the outlets and plans. It takes what C gives.
 pub(crate) fn solve(
     heap: Global,
     junctions: u64,

@@ -92,13 +92,11 @@ impl<K: fmt::Display> fmt::Display for Compared<K> {
     }
 }
 
-fn compare<K: Cost>(paid: K, planned: Option<K>) -> Compared<K> {
+fn compare<K: Cost + Eq>(paid: K, planned: Option<K>) -> Compared<K> {
     match planned {
         None => Compared::NotPlanned,
-        Some(planned) if planned.is_below(paid) || paid.is_below(planned) => {
-            Compared::Differs { planned }
-        }
-        Some(_) => Compared::Agrees,
+        Some(planned) if planned == paid => Compared::Agrees,
+        Some(planned) => Compared::Differs { planned },
     }
 }
 
@@ -113,15 +111,29 @@ impl Tally {
     }
 }
 
-// A call or a comparison where there is no district.
-pub fn say_no_district(rt: &HostRuntime, line: u64, tally: &mut Tally) -> Result<(), Fault> {
-    println!(rt; "line {line}: no district")?;
-    tally.skipped = true;
-    Ok(())
+// Why a line was passed over: it was not understood, or it asks something of a district and there is none.
+#[derive(Clone, Copy)]
+pub enum Passed {
+    NotUnderstood,
+    NoDistrict,
 }
 
-pub fn say_not_understood(rt: &HostRuntime, line: u64, tally: &mut Tally) -> Result<(), Fault> {
-    println!(rt; "line {line}: not understood")?;
+impl fmt::Display for Passed {
+    fn fmt<W: fmt::Write>(&self, f: &mut fmt::Formatter<W>) -> fmt::Result {
+        match self {
+            Passed::NotUnderstood => write!(f, "not understood"),
+            Passed::NoDistrict => write!(f, "no district"),
+        }
+    }
+}
+
+pub fn say_passed(
+    rt: &HostRuntime,
+    line: u64,
+    why: Passed,
+    tally: &mut Tally,
+) -> Result<(), Fault> {
+    println!(rt; "line {line}: {why}")?;
     tally.skipped = true;
     Ok(())
 }
@@ -136,9 +148,9 @@ fn say_unmade<K: Cost>(
     println!(rt; "{why}")?;
     for entry in sheet.entries.iter() {
         match *entry {
-            Entry::NotUnderstood { line } => say_not_understood(rt, line, tally)?,
+            Entry::NotUnderstood { line } => say_passed(rt, line, Passed::NotUnderstood, tally)?,
             Entry::Asked { line, .. } | Entry::Dug { line, .. } => {
-                say_no_district(rt, line, tally)?
+                say_passed(rt, line, Passed::NoDistrict, tally)?
             }
         }
     }
@@ -157,7 +169,7 @@ fn turn_at<'t, K: Cost>(
 }
 
 // The lines of a district that was made.
-fn say_made<K: Cost + fmt::Display>(
+fn say_made<K: Cost + Eq + fmt::Display>(
     rt: &HostRuntime,
     sheet: &Sheet<K>,
     trials: &[Trial<K>],
@@ -170,7 +182,7 @@ fn say_made<K: Cost + fmt::Display>(
     let mut planned = None;
     for entry in sheet.entries.iter() {
         match *entry {
-            Entry::NotUnderstood { line } => say_not_understood(rt, line, tally)?,
+            Entry::NotUnderstood { line } => say_passed(rt, line, Passed::NotUnderstood, tally)?,
             Entry::Dug { cost, .. } => {
                 let compared = compare(cost, planned);
                 println!(rt; "dug {cost}: {compared}")?;
@@ -188,7 +200,7 @@ fn say_made<K: Cost + fmt::Display>(
 }
 
 // All lines of a sheet. The making gets the same answer with all tools.
-pub fn say_sheet<K: Cost + fmt::Display>(
+pub fn say_sheet<K: Cost + Eq + fmt::Display>(
     rt: &HostRuntime,
     sheet: &Sheet<K>,
     trials: &[Trial<K>],

@@ -3,7 +3,7 @@ ghost use Rattle.std.specs.Prelude.{OnOk};
 ghost use Rattle.commands.specs.Commands.{understood};
 ghost use Rattle.sheets.specs.Pages.{Read};
 
-use crate::say::{Tally, say_no_district, say_not_understood, say_sheet};
+use crate::say::{Passed, Tally, say_passed, say_sheet};
 use commands::{Command, Lines, read_line};
 use console::Fault;
 use network::Cost;
@@ -12,7 +12,7 @@ use sheets::{Page, Sheet, try_sheet};
 use std::fmt;
 
 // Tries the calls of a district and says what its lines got.
-fn finish_sheet<K: Cost + Figured + fmt::Display>(
+fn finish_sheet<K: Cost + Eq + Figured + fmt::Display>(
     rt: &HostRuntime,
     sheet: &Sheet<K>,
     tally: &mut Tally,
@@ -41,7 +41,7 @@ fn take_line(
 {
     let Some(command) = read_line(line) else {
         return match page {
-            None => say_not_understood(rt, number, tally),
+            None => say_passed(rt, number, Passed::NotUnderstood, tally),
             Some(page) => Ok(page.skip(number)?),
         };
     };
@@ -57,7 +57,7 @@ fn take_line(
             Ok(())
         }
         Command::Call(call) => match page {
-            None => say_no_district(rt, number, tally),
+            None => say_passed(rt, number, Passed::NoDistrict, tally),
             Some(page) => Ok(page.note(number, call)?),
         },
     }

@@ -105,6 +105,7 @@ impl<K: Kind> Record<K> {
     }
 
     // The number of the run laid.
+    // Memory ends the trial; a question that is failed is an answer.
     pub fn lay(&mut self, a: u64, b: u64, cost: K) -> Result<Result<usize, Fails>, AllocError> {
         let number = self.ask_lay(a, b, cost);
         if number.is_ok() {
@@ -122,6 +123,7 @@ impl<K: Kind> Record<K> {
     }
 
     // Opens or closes a run.
+    // (`open` is the state that the run gets.)
     pub fn turn(&mut self, run: u64, open: bool) -> Result<(), Fails> {
         let laid = self.runs.get_mut(run as usize).ok_or(Fails::NoRun)?;
         ask(laid.open != open, Fails::RunState)?;

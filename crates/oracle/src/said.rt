@@ -29,6 +29,7 @@ impl Figure {
     }
 }
 
+// One enum, and no option of a result: an answer is compared whole.
 #[derive(Clone, Copy, PartialEq, Eq)]
 pub enum Said {
     // Nothing was tried.

@@ -18,6 +18,7 @@ use search::plan::plan;
 use search::{NoPlan, Plan};
 
 // The question of a refusal: it has the same number.
+// (No `From`: this crate owns neither type, and the oracle knows nothing of the library.)
 pub fn fails_of(why: Refusal) -> Fails
     ensures { number_of result ≡ refusal_number why }
 {

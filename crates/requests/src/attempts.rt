@@ -24,8 +24,7 @@ fn spanned(estimator: EstimatorChoice, places: Option<u64>) -> u64
 {
     match estimator {
         EstimatorChoice::Silent => u64::MAX,
-        EstimatorChoice::Farthest => up_to(places, u64::MAX) / PLACES,
-        EstimatorChoice::Larger => up_to(places, u64::MAX) / PLACES,
+        EstimatorChoice::Farthest | EstimatorChoice::Larger => up_to(places, u64::MAX) / PLACES,
     }
 }
 

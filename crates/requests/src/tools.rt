@@ -11,6 +11,7 @@ pub struct Tools {
 }
 
 impl Tools {
+    // (`==`, under the name that a contract and an edit know.)
     pub fn is_same(self, other: Tools) -> bool
         ensures { result ≡ same_tools self other }
     {

@@ -26,7 +26,7 @@ fn mark(answer: &mut [u8], number: RunNumber)
 }
 
 impl<K: Cost> Drawing<'_, K> {
-    // The other end of a run, seen from `v`.
+    // The other end of a run, seen from `v`. (Unlike in a labelling there is one: a way back goes by a run that ends at `v`.)
     fn far_end(&self, number: RunNumber, v: Junction) -> Junction
         requires { number < length self.now.runs.now }
         ensures { result ≡ far_end self.now.runs.now number v }

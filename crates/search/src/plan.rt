@@ -41,14 +41,6 @@ fn ask<K: Cost>(
     Ok(size)
 }
 
-// What the label at a code costs.
-fn cost_at<Q: Queue, E: Estimator<Cost = Q::Cost>>(desk: &Desk<'_, Q, E>, code: usize) -> Q::Cost
-    requires { code < length desk.now.labels.now }
-    ensures { result ≡ cost_at Q.Cost.Cost.kind (tables_on desk.now) code }
-{
-    desk.labels[code].unwrap_or(Q::Cost::zero())
-}
-
 // The cost of the root with all others, and its runs drawn into the answer row.
 fn finish<Q: Queue, E: Estimator<Cost = Q::Cost>>(
     desk: &Desk<'_, Q, E>,
@@ -68,7 +60,7 @@ fn finish<Q: Queue, E: Estimator<Cost = Q::Cost>>(
     answer[..drawing.runs.len()].fill(0);
     drawing.mark_branch(root, all, answer);
     Plan {
-        cost: cost_at(desk, drawing.size.code(root, all)),
+        cost: desk.cost_of(drawing.size.code(root, all)),
         count: turns,
     }
 }

@@ -16,6 +16,7 @@ fn is_named<K: Cost>(requests: &[Request<K>], tools: Tools) -> bool
 }
 
 // What the calls got with these tools, beside what they got with others.
+// (The clauses tell of the trials before and after, so they stay beside the sheet.)
 fn add_trial<K: Cost + Figured>(
     heap: Global,
     sheet: &Sheet<K>,

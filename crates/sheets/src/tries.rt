@@ -60,6 +60,7 @@ fn try_queue<Q: Queue>(
     let mut distances = vec![in heap; None; room.distances]?;
     let labels = labels.as_mut_slice();
     let ways = ways.as_mut_slice();
+    // Each arm lays its own desk, since the estimators are of three types.
     match estimator {
         EstimatorChoice::Silent => {
             let estimator = Silent::new();
@@ -126,6 +127,7 @@ fn try_tools<K: Cost>(
 }
 
 // Makes a district over so many places for runs, and tries the turns on it.
+// The parameters stay apart: the clauses tell of the turns before and after, and of nothing else twice.
 pub fn try_turns<K: Cost>(
     heap: Global,
     junctions: u64,

@@ -27,6 +27,7 @@ fn read_lay(mut line: Words<'_>) -> Option<Command>
     line.whole(Command::Call(Call::Lay { a, b, cost }))
 }
 
+// (As in `commands`, over the types of `duct`.)
 fn read_mark(mut line: Words<'_>) -> Option<Command>
     ensures { result ≡ mark_of (words_left line.entry) }
 {

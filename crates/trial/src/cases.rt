@@ -47,12 +47,16 @@ fn euros(money: u64) -> Figure
 }
 
 // A plan that is found.
-fn found(turns: u32, money: u64, runs: usize) -> Said {
+fn found(turns: u32, money: u64, runs: usize) -> Said
+    ensures { result ≡ Said.Planned turns (record { crossings = 0; money = money }) runs }
+{
     Said::Planned(turns, euros(money), runs)
 }
 
 // A plan that is stopped with a floor.
-fn stopped(turns: u32, floor: u64) -> Said {
+fn stopped(turns: u32, floor: u64) -> Said
+    ensures { result ≡ Said.Stopped turns (record { crossings = 0; money = floor }) }
+{
     Said::Stopped(turns, euros(floor))
 }
 

@@ -69,13 +69,13 @@ fn report(
 
 fn main(rt: HostRuntime) -> Result<(), Fault> {
     all_false(&rt)?;
-    let mut worked = tally::Tally::new();
+    let mut worked = tally::Tally::default();
     let done = all_cases(rt.alloc(), &mut worked);
     report(&rt, "worked examples", done, &worked)?;
-    let mut money = tally::Tally::new();
+    let mut money = tally::Tally::default();
     let done = random_trial::<Money>(&rt, MONEY_SEED, &mut money);
     report(&rt, "money", done, &money)?;
-    let mut crossings = tally::Tally::new();
+    let mut crossings = tally::Tally::default();
     let done = random_trial::<CrossingsFirst>(&rt, CROSSINGS_SEED, &mut crossings);
     report(&rt, "crossings first", done, &crossings)
 }

@@ -6,7 +6,7 @@ use std::fmt;
 // One more than the largest number of a refusal.
 const NUMBERS: usize = 21;
 
-#[derive(Clone, Copy)]
+#[derive(Clone, Copy, Default)]
 pub struct Tally {
     // The sequences so far, and the call and the way that are looked at.
     pub sequence: u64,
@@ -24,21 +24,6 @@ pub struct Tally {
 }
 
 impl Tally {
-    pub fn new() -> Tally {
-        Tally {
-            sequence: 0,
-            call: 0,
-            way: 0,
-            calls: 0,
-            found: 0,
-            refused: [0; NUMBERS],
-            labels: 0,
-            bounds: 0,
-            laws: 0,
-            limits: 0,
-        }
-    }
-
     // One more refusal.
     pub fn refuse(&mut self, fails: Fails) {
         if let Some(times) = self.refused.get_mut(fails as usize) {

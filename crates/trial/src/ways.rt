@@ -43,7 +43,10 @@ pub struct Outcome<K> {
     pub turns: Vec<Turn<K>>,
 }
 
-// Rows for so many runs.
+// Whether the making failed, and the turns.
+type Tried<K> = (Result<(), Fails>, Vec<Turn<K>>);
+
+// Rows for so many runs. (Here as in the programs, since the library takes nothing from the heap.)
 pub fn run_rows<K: Cost>(heap: Global, places: usize) -> Result<Memory<K>, Fault> {
     let cost = K::zero();
     let runs = vec![in heap; Run { a: 1, b: 1, cost }; places]?;
@@ -81,8 +84,7 @@ fn tried<Q: Queue, E: Estimator<Cost = Q::Cost>>(
     sequence: &Sequence<Q::Cost>,
     queue: &mut Q,
     estimator: &mut E,
-    far: bool,
-) -> Result<Outcome<Q::Cost>, Fault> {
+) -> Result<Tried<Q::Cost>, Fault> {
     let memory = run_rows(heap, sequence.capacity)?;
     let (mut labels, mut ways) = label_rows(heap, LABELS)?;
     let mut turns = turns_of(heap, &sequence.asked)?;
@@ -96,31 +98,29 @@ fn tried<Q: Queue, E: Estimator<Cost = Q::Cost>>(
         Ok(_) => Ok(()),
         Err(unmade) => Err(fails_of(unmade.why)),
     };
-    Ok(Outcome { far, making, turns })
+    Ok((making, turns))
 }
 
 fn with_row<E: Estimator>(
     heap: Global,
     sequence: &Sequence<E::Cost>,
     estimator: &mut E,
-    far: bool,
-) -> Result<Outcome<E::Cost>, Fault> {
+) -> Result<Tried<E::Cost>, Fault> {
     let mut waiting = vec![in heap; None; LABELS]?;
     let mut queue = Row::over(&mut waiting);
-    tried(heap, sequence, &mut queue, estimator, far)
+    tried(heap, sequence, &mut queue, estimator)
 }
 
 fn with_heap<E: Estimator>(
     heap: Global,
     sequence: &Sequence<E::Cost>,
     estimator: &mut E,
-    far: bool,
-) -> Result<Outcome<E::Cost>, Fault> {
+) -> Result<Tried<E::Cost>, Fault> {
     let mut keys = vec![in heap; E::Cost::zero(); LABELS]?;
     let mut codes = vec![in heap; 1u32; LABELS]?;
     let mut places = vec![in heap; 2u32; LABELS]?;
     let mut queue = Heap::over(&mut keys, &mut codes, &mut places);
-    tried(heap, sequence, &mut queue, estimator, far)
+    tried(heap, sequence, &mut queue, estimator)
 }
 
 // Tries a sequence with the row, and then with the heap.
@@ -131,8 +131,10 @@ fn with_both<E: Estimator>(
     far: bool,
     outcomes: &mut Vec<Outcome<E::Cost>>,
 ) -> Result<(), Fault> {
-    outcomes.push(with_row(heap, sequence, estimator, far)?)?;
-    outcomes.push(with_heap(heap, sequence, estimator, far)?)?;
+    let (making, turns) = with_row(heap, sequence, estimator)?;
+    outcomes.push(Outcome { far, making, turns })?;
+    let (making, turns) = with_heap(heap, sequence, estimator)?;
+    outcomes.push(Outcome { far, making, turns })?;
     Ok(())
 }
 

@@ -11,15 +11,16 @@ use search::{NoPlan, Plan};
 use std::alloc::{AllocError, Global};
 use std::test::Fail;
 
-// Plans in memory that held something else before.
+// Plans in memory that held something else before. Memory and the plan fail apart.
 fn planned<K: Cost>(
     heap: Global,
     d: &District<K>,
     limit: u32,
+    label: K,
     other: K,
     answer: &mut [u8],
 ) -> Result<Result<Plan<K>, NoPlan<K>>, AllocError> {
-    let mut labels = vec![in heap; Some(other); 16]?;
+    let mut labels = vec![in heap; Some(label); 16]?;
     let mut ways = [WAY; 16];
     let mut keys = vec![in heap; other; 16]?;
     let mut codes = [7u32; 16];
@@ -39,12 +40,19 @@ fn in_money(rt: HostRuntime) -> Result<(), Fail> {
     let mut d = money_star(&rt, rt.alloc())?;
     mark_all(&rt, &mut d, &[0, 1, 2]);
     let mut answer = [9u8; 5];
-    let Err(NoPlan::Stopped(count, floor)) = planned(rt.alloc(), &d, 0, euros(1), &mut answer)?
+    let Err(NoPlan::Stopped(count, floor)) = planned(
+        rt.alloc(),
+        &d,
+        0,
+        euros(77),
+        euros(1),
+        &mut answer,
+    )?
     else {
         return Err(Fail::new("not stopped"));
     };
     assert_eq!(rt; (count, floor.amount), (0, 4));
-    let Ok(best) = planned(rt.alloc(), &d, 12, euros(1), &mut answer)? else {
+    let Ok(best) = planned(rt.alloc(), &d, 12, euros(77), euros(1), &mut answer)? else {
         return Err(Fail::new("not planned"));
     };
     assert_eq!(rt; (best.cost.amount, best.count), (6, 6));
@@ -64,13 +72,13 @@ fn repriced(rt: HostRuntime) -> Result<(), Fail> {
     assert!(rt; d.lay(3, 0, euros(3)).is_ok());
     mark_all(&rt, &mut d, &[0, 1]);
     let mut answer = [9u8; 4];
-    let Ok(dear) = planned(rt.alloc(), &d, 4, euros(1), &mut answer)? else {
+    let Ok(dear) = planned(rt.alloc(), &d, 4, euros(77), euros(1), &mut answer)? else {
         return Err(Fail::new("not planned"));
     };
     assert_eq!(rt; (dear.cost.amount, dear.count), (6, 3));
     assert_eq!(rt; answer, [0, 0, 1, 1]);
     assert!(rt; d.reprice(1, euros(1)).is_ok());
-    let Ok(cheap) = planned(rt.alloc(), &d, 4, euros(1), &mut answer)? else {
+    let Ok(cheap) = planned(rt.alloc(), &d, 4, euros(77), euros(1), &mut answer)? else {
         return Err(Fail::new("not planned"));
     };
     assert_eq!(rt; (cheap.cost.amount, cheap.count), (2, 3));
@@ -93,7 +101,15 @@ fn in_crossings(rt: HostRuntime) -> Result<(), Fail> {
     )?;
     mark_all(&rt, &mut d, &[0, 1, 2]);
     let mut answer = [9u8; 5];
-    let Ok(best) = planned(rt.alloc(), &d, 12, crossing(0, 1), &mut answer)? else {
+    let Ok(best) = planned(
+        rt.alloc(),
+        &d,
+        12,
+        crossing(7, 7),
+        crossing(0, 1),
+        &mut answer,
+    )?
+    else {
         return Err(Fail::new("not planned"));
     };
     assert_eq!(rt; (best.cost.crossings, best.cost.money), (0, 8));

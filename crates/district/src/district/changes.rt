@@ -63,7 +63,7 @@ impl<K: Cost> District<K> {
         Ok(())
     }
 
-    // Where the run of a number stands, if it has been laid.
+    // Where the run of a number stands, if it has been laid. (As `junction`, with another type, bound and refusal.)
     fn run(&self, number: u64) -> Result<usize, Refusal>
         ensures { result ≡ cond (nat_le (length (model_of self.now).runs) number) (Err NoRun) (Ok number) }
     {

@@ -55,6 +55,7 @@ fn look<K: Cost>(ds: &[Option<K>], v: Junction, set: u16, outlets: usize) -> K
     ensures { result ≡ farthest K.Cost.kind (in_row ds.now) v set outlets }
 {
     let mut best = K::zero();
+    // By the number, which names both the place and the bit of the set.
     for j in 0..outlets {
         if !is_in(set, j) {
             best = greater_of(best, place_at(ds, v as usize * MOST_OUTLETS + j));
@@ -89,7 +90,7 @@ impl<'m, K: Cost> Estimator for Farthest<'m, K> {
     }
 
     fn estimate(&self, v: Junction, set: u16) -> K {
-        let outlets = self.outlets.min(MOST_OUTLETS);
+        let outlets = self.outlets;
         if v >= self.junctions || outlets == 0 || set >= 1 << (outlets - 1) {
             return K::zero();
         }

@@ -6,8 +6,8 @@ use Rattle.search.specs.Planning.{cost_at}
 use Rattle.search.proofs.Plans.{filled}
 use Rattle.search.proofs.plan.finish.Goals as goal
 
-pub cost_at-requires : goal.cost_at-requires
-cost_at-requires g c =
+pub cost_of-requires : goal.cost_of-requires
+cost_of-requires g c =
     let lt = code_within c.args.drawing.now.size c.args.root (c.args.drawing.now.size.sets - 1) c.requires.settled.junction c.requires.settled.outlets in
     subst (λ n. n < length c.args.desk.now.labels.now) (sym c.code.ensures) (let long = c.requires.labels in omega arith)
 
@@ -15,6 +15,6 @@ pub returns : goal.returns
 returns g c =
     let enough = c.requires.turns in
     record {
-      cost = ap (λ y. record { cost = y; count = c.args.turns }) (c.cost_at.ensures ∙ ap (cost_at g.Q.Cost.Cost.kind (tables_on c.args.desk.now)) c.code.ensures);
+      cost = ap (λ y. record { cost = y; count = c.args.turns }) (c.cost_of.ensures ∙ ap (cost_at g.Q.Cost.Cost.kind (tables_on c.args.desk.now)) c.code.ensures);
       row = c.mark_branch.ensures (suc c.args.turns) (omega arith) ∙ ap (drawn c.args.drawing.now.size c.args.drawing.now.runs.now c.args.drawing.now.ways.now (suc c.args.turns) c.args.root (c.args.drawing.now.size.sets - 1)) (filled (length c.args.drawing.now.runs.now) 0 c.args.answer.now c.fill.new.self c.requires.room (c.fill.ensures.after (search rules)));
     }
