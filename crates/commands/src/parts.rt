@@ -17,6 +17,7 @@ fn read_queue(word: &[u8]) -> Option<QueueChoice>
     }
 }
 
+// (As `read_queue`.)
 fn read_estimator(word: &[u8]) -> Option<EstimatorChoice>
     ensures { result ≡ estimator_of word.now }
 {

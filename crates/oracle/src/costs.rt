@@ -52,7 +52,7 @@ pub fn alike<K: Cost>(a: Option<K>, b: Option<K>) -> bool
     }
 }
 
-// What stands at `i`, and none past the end.
+// What stands at `i`, and none past the end. (The library has its own: the oracle shares nothing with it.)
 pub fn at<K: Copy>(row: &[Option<K>], i: usize) -> Option<K>
     ensures { result ≡ slice_index_or row.now i None }
 {
