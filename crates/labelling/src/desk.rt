@@ -23,12 +23,15 @@ pub struct Desk<'m, Q: Queue, E> {
 }
 
 impl<'m, Q: Queue, E: Estimator<Cost = Q::Cost>> Desk<'m, Q, E> {
-    // What the label at a code costs; zero where it is not reached.
+    // What the label at a code costs; zero where none is reached.
     pub fn cost_of(&self, code: usize) -> Q::Cost
-        requires { code < length self.now.labels.now }
         ensures { result ≡ unwrap_or (label_at (tables_on self.now) code) Q.Cost.Cost.kind.zero }
     {
-        self.labels[code].unwrap_or(Q::Cost::zero())
+        self.labels
+            .get(code)
+            .copied()
+            .flatten()
+            .unwrap_or(Q::Cost::zero())
     }
 
     // The label at a code is reached at the cost, with its way back.

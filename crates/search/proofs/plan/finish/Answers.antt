@@ -1,15 +1,9 @@
-use Rattle.std.proofs.Common.{suc, ◌-◌, ◌<◌, length, sym, ap, ◌∙◌, subst, arith, rules}
-use Rattle.labelling.proofs.Offering.{code_within}
+use Rattle.std.proofs.Common.{suc, ◌-◌, length, ap, ◌∙◌, arith, rules}
 use Rattle.labelling.specs.Desks.{tables_on}
 use Rattle.optimal.specs.Drawing.{drawn}
 use Rattle.search.specs.Planning.{cost_at}
 use Rattle.search.proofs.Plans.{filled}
 use Rattle.search.proofs.plan.finish.Goals as goal
-
-pub cost_of-requires : goal.cost_of-requires
-cost_of-requires g c =
-    let lt = code_within c.args.drawing.now.size c.args.root (c.args.drawing.now.size.sets - 1) c.requires.settled.junction c.requires.settled.outlets in
-    subst (λ n. n < length c.args.desk.now.labels.now) (sym c.code.ensures) (let long = c.requires.labels in omega arith)
 
 pub returns : goal.returns
 returns g c =

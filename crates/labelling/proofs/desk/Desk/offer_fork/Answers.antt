@@ -10,11 +10,6 @@ bounds-self-code g c =
     let lt = code_within c.args.size c.args.from.v c.args.set c.requires.junction c.requires.others in
     omega (arith, lt, c.code-code.ensures, c.requires.fit.ready.ways_long)
 
-pub cost_of-other-requires : goal.cost_of-other-requires
-cost_of-other-requires g c =
-    let lt = code_within c.args.size c.args.from.v c.args.set c.requires.junction c.requires.others in
-    omega (arith, lt, c.code-code.ensures, c.requires.fit.ready.labels_long)
-
 pub returns-in-Some-clause-same : goal.returns-in-Some-clause-same
 returns-in-Some-clause-same g c =
     let r = rule g.Q.Cost.Cost.kind (g.E.Estimator.bound c.args.self.now.estimator) c.args.size in
