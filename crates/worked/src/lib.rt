@@ -6,6 +6,6 @@ mod districts;
 #[cfg(test)]
 mod far;
 #[cfg(test)]
-mod lines;
+mod reading;
 #[cfg(test)]
 mod plans;
