@@ -6,6 +6,6 @@ mod districts;
 #[cfg(test)]
 mod far;
 #[cfg(test)]
-mod reading;
-#[cfg(test)]
 mod plans;
+#[cfg(test)]
+mod reading;
