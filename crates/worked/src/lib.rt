@@ -6,6 +6,6 @@ mod districts;
 #[cfg(test)]
 mod far;
 #[cfg(test)]
-mod lines;
-#[cfg(test)]
 mod plans;
+#[cfg(test)]
+mod reading;
