@@ -8,4 +8,4 @@ mod program;
 
 pub use fault::Fault;
 pub use marked::Marked;
-pub use program::run;
+pub use program::{TextProgram, run};

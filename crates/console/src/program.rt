@@ -3,22 +3,20 @@ use crate::fault::Fault;
 use crate::input::read_text;
 use std::process::ExitCode;
 
+pub trait TextProgram {
+    // Says on standard output what each line of the text gets.
+    fn answer_all(&self, rt: &HostRuntime, text: &[u8]) -> Result<(), Fault>;
+}
+
 // The text, and then its answers.
-fn answer<F: FnOnce(&[u8]) -> Result<(), Fault>>(
-    rt: &HostRuntime,
-    answer_all: F,
-) -> Result<(), Fault>
-    requires { F.IsAlwaysCallable answer_all }
-{
+fn answer<P: TextProgram>(rt: &HostRuntime, program: &P) -> Result<(), Fault> {
     let text = read_text(rt)?;
-    answer_all(&text)
+    program.answer_all(rt, &text)
 }
 
 // Status 1 where a fault ended it, which is said on standard error.
-pub fn run<F: FnOnce(&[u8]) -> Result<(), Fault>>(rt: &HostRuntime, answer_all: F) -> ExitCode
-    requires { F.IsAlwaysCallable answer_all }
-{
-    match answer(rt, answer_all) {
+pub fn run<P: TextProgram>(rt: &HostRuntime, program: &P) -> ExitCode {
+    match answer(rt, program) {
         Ok(()) => ExitCode::SUCCESS,
         Err(fault) => {
             fault.report(rt);

@@ -25,7 +25,7 @@ placed os xs j (Err p) same rises found =
     let s = searched os j (Err p) (subst (λ ys. IsBinarySearchResult (λ y. nat_cmp y j) ys (Err p)) same found) (climbs os rises) in
     record { fit = s.0; below = s.1; above = s.2 }
 
-has_at : (j : ℕ) (os : List ℕ) (p : ℕ) → p < length os → get_or os p 0 ≡ j → has j os ≡ true
+pub has_at : (j : ℕ) (os : List ℕ) (p : ℕ) → p < length os → get_or os p 0 ≡ j → has j os ≡ true
 has_at j [] p l e = absurd (omega arith)
 has_at j (x ∷ os) zero l e =
     let h : eqb x j ≡ true = grind (arith, nat_tests) in ap (λ b. cond b true (has j os)) h
@@ -33,14 +33,14 @@ has_at j (x ∷ os) (suc p) l e =
     let h = has_at j os p (omega arith) e in
     elim (eqb x j) as (λ b. cond b true (has j os) ≡ true) [ true ↦ refl | false ↦ h ]
 
-has_none : (j : ℕ) (os : List ℕ) → ((k : ℕ) → k < length os → get_or os k 0 ≢ j) → has j os ≡ false
+pub has_none : (j : ℕ) (os : List ℕ) → ((k : ℕ) → k < length os → get_or os k 0 ≢ j) → has j os ≡ false
 has_none j [] never = refl
 has_none j (x ∷ os) never =
     let n : x ≢ j = never 0 (omega arith) in
     let h : eqb x j ≡ false = grind (arith, nat_tests) in
     ap (λ b. cond b true (has j os)) h ∙ has_none j os (λ k l. never (suc k) (omega arith))
 
-ins_is : (j : ℕ) (os : List ℕ) (p : ℕ) → p ≤ length os → ((k : ℕ) → k < p → get_or os k 0 < j) → (p < length os → j ≤ get_or os p 0) → ins j os ≡ insert os p j
+pub ins_is : (j : ℕ) (os : List ℕ) (p : ℕ) → p ≤ length os → ((k : ℕ) → k < p → get_or os k 0 < j) → (p < length os → j ≤ get_or os p 0) → ins j os ≡ insert os p j
 ins_is j [] zero le lo hi = refl
 ins_is j [] (suc p) le lo hi = absurd (omega arith)
 ins_is j (x ∷ os) zero le lo hi =
@@ -51,7 +51,7 @@ ins_is j (x ∷ os) (suc p) le lo hi =
     ap (λ b. cond b (x ∷ ins j os) (j ∷ x ∷ os)) e
     ∙ ap (λ ys. x ∷ ys) (ins_is j os p (omega arith) (λ k l. lo (suc k) (omega arith)) (λ l. hi (omega arith)))
 
-del_is : (j : ℕ) (os : List ℕ) (p : ℕ) → p < length os → ((k : ℕ) → k < p → get_or os k 0 < j) → get_or os p 0 ≡ j → del j os ≡ remove os p
+pub del_is : (j : ℕ) (os : List ℕ) (p : ℕ) → p < length os → ((k : ℕ) → k < p → get_or os k 0 < j) → get_or os p 0 ≡ j → del j os ≡ remove os p
 del_is j [] p l lo e = absurd (omega arith)
 del_is j (x ∷ os) zero l lo e = let h : eqb x j ≡ true = grind (arith, nat_tests) in ap (λ b. cond b os (x ∷ del j os)) h
 del_is j (x ∷ os) (suc p) l lo e =
@@ -60,7 +60,7 @@ del_is j (x ∷ os) (suc p) l lo e =
     ap (λ b. cond b os (x ∷ del j os)) h ∙ ap (λ ys. x ∷ ys) (del_is j os p (omega arith) (λ k m. lo (suc k) (omega arith)) e)
 
 -- the three places of a k, seen from p
-sides : (k p : ℕ) → (k < p) ⊎ ((k ≡ p) ⊎ ((m : ℕ) × (p ≤ m) × (k ≡ m + 1)))
+pub sides : (k p : ℕ) → (k < p) ⊎ ((k ≡ p) ⊎ ((m : ℕ) × (p ≤ m) × (k ≡ m + 1)))
 sides k p =
     elim (cases_lt k p)
     [ inl h ↦ inl h | inr h ↦ elim (cases_lt p k) [ inl q ↦ inr (inr (k - 1, omega arith, omega arith)) | inr q ↦ inr (inl (omega arith)) ] ]

@@ -1,6 +1,6 @@
 // Distances, found by trials along the open runs, in rounds, until a round changes nothing.
 // The distance of junction v to the j-th outlet stands at v × 12 + j.
-ghost use Rattle.std.specs.Prelude.{◌≡◌, ℕ, ◌+◌, ◌*◌, ◌<◌, ◌≤◌, false, length, take, slice_index};
+ghost use Rattle.std.specs.Prelude.{◌≡◌, ℕ, ◌+◌, ◌*◌, ◌<◌, ◌≤◌, false, cond, length, take, slice_index};
 ghost use Rattle.farthest.specs.Trials.{open_runs, arc, run_arcs, round_arcs, improves, tried, applied, rounds, with_outlets, table};
 
 use district::district::MOST_OUTLETS;
@@ -47,15 +47,28 @@ fn try_run<K: Cost>(ds: &mut [Option<K>], run: &Run<K>, count: usize) -> bool
     changed
 }
 
+// The same where the run is open, and nothing where it is closed.
+fn try_if_open<K: Cost>(ds: &mut [Option<K>], run: &Run<K>, open: bool, count: usize) -> bool
+    requires { (count ≤ 12) × ((run.now.a * 12 + 12 ≤ length ds.old) × (run.now.b * 12 + 12 ≤ length ds.old)) }
+    ensures after { ds.new ≡ cond «open» (applied K.Cost.kind (run_arcs count run.now) ds.old) ds.old }
+    ensures still { result ≡ false → ds.new ≡ ds.old }
+{
+    if !open {
+        return false;
+    }
+    try_run(ds, run, count)
+}
+
 // The trials of one round.
 fn round<K: Cost>(ds: &mut [Option<K>], view: &View<'_, K>) -> bool
     requires { view.now.junctions * 12 ≤ length ds.old }
     ensures after { ds.new ≡ applied K.Cost.kind (round_arcs (length view.now.outlets.now) (open_runs view.now.runs.now view.now.«open».now)) ds.old }
     ensures still { result ≡ false → ds.new ≡ ds.old }
 {
+    let count = view.outlets.len();
     let mut changed = false;
     for (run, open) in view.runs.iter().zip(view.open) {
-        changed |= *open && try_run(ds, run, view.outlets.len());
+        changed |= try_if_open(ds, run, *open, count);
     }
     changed
 }

@@ -25,6 +25,11 @@ abbrev pub made : {K : Type 0} → Option (K × ℕ) → Labelled K → (ℕ →
 made None none some = none
 made (Some p) none some = some p.1
 
+-- whether the turn is made at the goal, where one is made
+abbrev pub settles : {K : Type 0} → ℕ → Option (K × ℕ) → Option Bool
+settles goal None = None
+settles goal (Some p) = Some (p.1 == goal)
+
 -- at most b more turns after the turn n, until the goal is settled; no candidate is tried in the turn that settles it
 abbrev pub labelled : {K : Type 0} → Rule K → List Bool → List (Run K) → ℕ → ℕ → ℕ → Tables K → Labelled K
 labelled r marks runs goal zero n t = ended (stopped (least_waiting r t)) n t

@@ -34,6 +34,14 @@ impl<'m, Q: Queue, E: Estimator<Cost = Q::Cost>> Desk<'m, Q, E> {
             .unwrap_or(Q::Cost::zero())
     }
 
+    // The same of a code that has a place in the row, which is not tested again.
+    pub(crate) fn cost_at(&self, code: usize) -> Q::Cost
+        requires { code < length self.now.labels.now }
+        ensures { result ≡ unwrap_or (label_at (tables_on self.now) code) Q.Cost.Cost.kind.zero }
+    {
+        self.labels[code].unwrap_or(Q::Cost::zero())
+    }
+
     // The label at a code is reached at the cost, with its way back.
     pub(crate) fn write(&mut self, code: usize, cost: Q::Cost, back: Back)
         requires { (code < length self.old.labels.now) × (code < length self.old.ways.now) }

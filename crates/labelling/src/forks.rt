@@ -42,7 +42,7 @@ impl<'m, Q: Queue, E: Estimator<Cost = Q::Cost>> Desk<'m, Q, E> {
         if self.ways[code].turn == 0 {
             return;
         }
-        let other = self.cost_of(code);
+        let other = self.cost_at(code);
         if let Some(cost) = from.cost.sum(other) {
             let to = Place {
                 v: from.v,

@@ -29,8 +29,8 @@ impl<'m, Q: Queue, E: Estimator<Cost = Q::Cost>> Desk<'m, Q, E> {
         // Most candidates are not kept, and an estimate takes longer than to see that.
         if self.improves_on(code, to.cost) {
             if let Some(key) = to.cost.sum(self.estimator.estimate(to.v, to.set)) {
-                let _ = self.queue.put(code, key);
                 self.write(code, to.cost, back);
+                let _ = self.queue.put(code, key);
             }
         }
     }

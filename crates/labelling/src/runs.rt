@@ -53,9 +53,11 @@ impl<'m, Q: Queue, E: Estimator<Cost = Q::Cost>> Desk<'m, Q, E> {
         ensures kept { Kept (rule Q.Cost.Cost.kind (E.bound self.old.estimator) size) Q.waiting Q.ok Q.Queue.lender self.old self.new }
         ensures same { tables_on self.new ≡ runs_offered (rule Q.Cost.Cost.kind (E.bound self.old.estimator) size) from view.now.«open».now 0 view.now.runs.now (tables_on self.old) }
     {
+        // Read once, and not from the view for each run.
+        let open = view.open;
         for (i, run) in view.runs.iter().enumerate() {
             // By the number, which the candidate notes too: a zip within `enumerate` is no plainer.
-            if view.open[i] {
+            if open[i] {
                 self.offer_run(size, from, i as RunNumber, run);
             }
         }

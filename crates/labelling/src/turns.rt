@@ -23,7 +23,7 @@ impl<'m, Q: Queue, E: Estimator<Cost = Q::Cost>> Desk<'m, Q, E> {
         Place {
             v: (code / sets) as Junction,
             set: (code % sets) as u16,
-            cost: self.cost_of(code),
+            cost: self.cost_at(code),
         }
     }
 

@@ -1,7 +1,8 @@
 -- Where a line, a comment and a word begin and end. Assumes nothing.
-use Rattle.std.proofs.Common.{◌≡◌, ℕ, zero, suc, ◌+◌, ◌<◌, ◌≤◌, Bool, true, false, cond, not, nat_eq, List, [], ◌∷◌, length, take, drop, position, Some, None, Option, unwrap_or, sym, refl, ap, ◌∙◌, arith}
+use Rattle.std.proofs.Common.{◌≡◌, ℕ, zero, suc, ◌+◌, ◌<◌, ◌≤◌, Bool, true, false, cond, not, nat_eq, List, [], ◌∷◌, length, get_or, take, drop, position, Some, None, Option, unwrap_or, sym, refl, ap, ◌∙◌, add-zero, arith, length-drop, get_or-drop}
 use Rattle.std.specs.List.{position_or_len}
-use Rattle.std.proofs.lemmas.List.Sums.{prefix_len-le-length}
+use Rattle.std.proofs.lemmas.List.{drop_all}
+use Rattle.std.proofs.lemmas.List.Sums.{prefix_len-le-length, prefix_len_passes}
 use native.Mathlib.Numerals.{one-add}
 use Rattle.lines.specs.Words.{lines, blank, before, past, onto, pieces, full, words}
 
@@ -55,24 +56,40 @@ first_line (x ∷ y ∷ ys) l =
     [ true ↦ refl | false ↦ ap (onto x) (first_line (y ∷ ys) (omega arith)) ]
 
 -- blanks at the front give no word
+pub skipped : (xs : List ℕ) (r : ℕ) → r ≤ length xs → ((k : ℕ) → k < r → blank (get_or xs k 0) ≡ true) → words (drop r xs) ≡ words xs
+skipped [] zero h f = refl
+skipped [] (suc r) h f = absurd (omega arith)
+skipped (x ∷ xs) zero h f = refl
+skipped (x ∷ xs) (suc r) h f =
+    skipped xs r (omega arith) (λ k l. f (suc k) (omega arith)) ∙ sym (ap (λ t. full (cond t ([] ∷ pieces xs) (onto x (pieces xs)))) (f 0 (omega arith)))
+
+-- nothing but blanks
+pub none_left : (xs rest : List ℕ) (r : ℕ) → rest ≡ drop r xs → r ≤ length xs → ((k : ℕ) → k < r → blank (get_or xs k 0) ≡ true) → (r < length xs → blank (get_or xs r 0) ≡ false) → (0 < length rest → blank (get_or rest 0 0) ≡ true) → words xs ≡ []
+none_left xs [] r e h f s t = sym (skipped xs r h f) ∙ sym (ap words e)
+none_left xs (y ∷ ys) r e h f s t =
+    let next : y ≡ get_or xs r 0 = ap (λ l. get_or l 0 0) e ∙ get_or-drop r xs 0 0 ∙ ap (λ i. get_or xs i 0) (add-zero r) in
+    let inside : r < length xs = omega (arith, ap length e, length-drop r xs) in
+    let is : blank y ≡ false = ap blank next ∙ s inside in
+    let isnt : blank y ≡ true = t (omega arith) in
+    let wrong : true ≡ false = sym isnt ∙ is in
+    let z : ◌≡◌ {A = ℕ} 0 1 = cc in
+    absurd (omega arith)
+
+-- where the first word begins, or the line ends
 abbrev pub first_word : List ℕ → ℕ
 first_word xs = position_or_len (λ b. not (blank b)) xs
 
-skipped-blank : (x : ℕ) (xs : List ℕ) (t : Bool) → blank x ≡ t → words (drop (first_word xs) xs) ≡ words xs → words (drop (cond (not (not t)) (1 + first_word xs) 0) (x ∷ xs)) ≡ words (x ∷ xs)
-skipped-blank x xs true h e = simp one-add (e ∙ sym (ap (λ t. full (cond t ([] ∷ pieces xs) (onto x (pieces xs)))) h))
-skipped-blank x xs false h e = refl
+blank_to : (xs : List ℕ) (k : ℕ) → k < first_word xs → blank (get_or xs k 0) ≡ true
+blank_to xs k l = look (blank (get_or xs k 0)) (prefix_len_passes (λ b. not (not (blank b))) xs k 0 l) where
+  look : (t : Bool) → not (not t) ≡ true → t ≡ true
+  look true h = refl
+  look false h = h
 
-pub skipped : (xs : List ℕ) → words (drop (first_word xs) xs) ≡ words xs
-skipped [] = refl
-skipped (x ∷ xs) = skipped-blank x xs (blank x) refl (skipped xs)
+pub to_word : (xs : List ℕ) → words (drop (first_word xs) xs) ≡ words xs
+to_word xs = skipped xs (first_word xs) (prefix_len-le-length (λ b. not (not (blank b))) xs) (blank_to xs)
 
--- nothing but blanks
-drop_whole : (xs : List ℕ) → drop (length xs) xs ≡ []
-drop_whole [] = refl
-drop_whole (x ∷ xs) = drop_whole xs
-
-pub none_left : (xs : List ℕ) → first_word xs ≡ length xs → words xs ≡ []
-none_left xs h = sym (skipped xs) ∙ ap (λ n. words (drop n xs)) h ∙ ap words (drop_whole xs)
+pub no_word : (xs : List ℕ) → first_word xs ≡ length xs → words xs ≡ []
+no_word xs h = none_left xs [] (length xs) (sym (drop_all (length xs) xs (omega arith))) (omega arith) (λ k l. blank_to xs k (omega (arith, h))) (λ l. absurd (omega arith)) (λ l. absurd (omega arith))
 
 -- the pieces after the first
 abbrev pub more : List ℕ → List (List ℕ)

@@ -1,7 +1,7 @@
 // What a line says in parts, each a name and its value.
 ghost use Rattle.std.specs.Prelude.{◌≡◌, Some, None, Option, MatchOption};
 ghost use Rattle.lines.specs.Left.{words_left};
-ghost use Rattle.lines.specs.Reading.{Word, once, parts};
+ghost use Rattle.lines.specs.Reading.{Word, bind, once, parts};
 
 use crate::word::Words;
 
@@ -27,6 +27,13 @@ pub trait Parts: Copy {
         ensures { result ≡ with_part self name.now value.now };
 }
 
+// One part more, whose value may be missing.
+fn with_part<P: Parts>(said: P, name: &[u8], value: Option<&[u8]>) -> Option<P>
+    ensures { result ≡ bind value.entry (λ v. P.with_part said name.now v.now) }
+{
+    said.with(name, value?)
+}
+
 // The parts of a line, in any order.
 pub fn read_parts<P: Parts>(said: P, mut line: Words<'_>) -> Option<P>
     ensures { result ≡ parts P.with_part (words_left line.entry) said }
@@ -34,8 +41,7 @@ pub fn read_parts<P: Parts>(said: P, mut line: Words<'_>) -> Option<P>
     let mut said = said;
     // Two words a turn, so no `for`.
     while let Some(name) = line.next() {
-        let value = line.next()?;
-        said = said.with(name, value)?;
+        said = with_part(said, name, line.next())?;
     }
     Some(said)
 }

@@ -42,7 +42,7 @@ fn word_end(line: &[u8]) -> Option<usize>
 fn next_word(line: &[u8]) -> Option<(&[u8], &[u8])>
     ensures { MatchOption result
         (words line.now ≡ [])
-        (λ p. words line.now ≡ p.0.now ∷ words p.1.now) }
+        (λ p. (words line.now ≡ p.0.now ∷ words p.1.now) × (length p.1.now < length line.now)) }
 {
     let (_, rest) = line.split_at(word_start(line)?);
     Some(rest.split_at(word_end(rest).unwrap_or(rest.len())))

@@ -4,8 +4,18 @@
 mod say;
 mod session;
 
+use console::{Fault, TextProgram};
 use std::process::ExitCode;
 
+#[derive(Clone, Copy)]
+struct ByDistrict;
+
+impl TextProgram for ByDistrict {
+    fn answer_all(&self, rt: &HostRuntime, text: &[u8]) -> Result<(), Fault> {
+        session::answer_all(rt, text)
+    }
+}
+
 fn main(rt: HostRuntime) -> ExitCode {
-    console::run(&rt, |text| session::answer_all(&rt, text))
+    console::run(&rt, &ByDistrict)
 }

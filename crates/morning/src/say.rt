@@ -207,7 +207,7 @@ pub fn say_sheet<K: Cost + Eq + fmt::Display>(
     tally: &mut Tally,
 ) -> Result<(), Fault> {
     match trials.first().map(|trial| &trial.turns) {
-        Some(Err(why)) => say_unmade(rt, *why, sheet, tally),
+        Some(Err(untried)) => say_unmade(rt, untried.why, sheet, tally),
         _ => say_made(rt, sheet, trials, tally),
     }
 }

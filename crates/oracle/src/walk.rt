@@ -115,9 +115,8 @@ fn started<'a, K: Cost>(
     Ok(walk)
 }
 
-// What it costs to join all outlets and how many turns that took; no cost where no label waits. It goes on until
-// `ends` says of the root's label with all others that it ends: right is where that is settled.
-pub fn walked<K: Cost, F: Fn(Reached<K>) -> bool>(
+// A labelling that goes on until `ends` says of the root's label with all others that it ends.
+fn walk_until<K: Cost, F: Fn(Reached<K>) -> bool>(
     heap: Global,
     survey: &Survey<K>,
     runs: &[Laid<K>],
@@ -140,6 +139,20 @@ pub fn walked<K: Cost, F: Fn(Reached<K>) -> bool>(
         }
     }
     Ok((walk.label(goal).cost, turns))
+}
+
+// What it costs to join all outlets and how many turns that took; no cost where no label waits. With `hasty` it
+// ends when the root's label with all others is first reached, which is wrong.
+pub fn walked<K: Cost>(
+    heap: Global,
+    survey: &Survey<K>,
+    runs: &[Laid<K>],
+    bounds: &Table<K>,
+    hasty: bool,
+) -> Result<(Option<K>, u32), AllocError> {
+    walk_until(heap, survey, runs, bounds, |goal| {
+        goal.settled || hasty && goal.cost.is_some()
+    })
 }
 
 // The bounds of the farthest outlet, by the distances of a survey, for each label.

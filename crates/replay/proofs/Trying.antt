@@ -1,12 +1,13 @@
--- A plan tried by what `plan` left, and a call that was tried in its turn. Assumes nothing.
-use Rattle.std.proofs.Common.{◌≡◌, ℕ, ◌≤◌, min, Bool, true, false, cond, ◌&&◌, ltb, leb, List, length, Some, Ok, Err, vec_items, Option, Result, sym, refl, ap, ◌∙◌, subst, arith, MatchResult}
+-- A fresh district's costs, a plan tried by what `plan` left, and a call that was tried in its turn. Assumes nothing.
+use Rattle.std.proofs.Common.{◌≡◌, ℕ, ◌≤◌, min, Bool, true, false, cond, ◌&&◌, ltb, leb, List, [], length, Some, Ok, Err, vec_items, Option, Result, sym, refl, ap, ◌∙◌, subst, arith, MatchResult}
 use Rattle.std.proofs.lemmas.Result.{MatchResult-weaker}
 use Rattle.std.proofs.lemmas.Bool.Decides.{nat_tests}
 use Rattle.network.specs.Costs.{Kind}
 use Rattle.network.specs.Layouts.{Layout, Priced}
 use Rattle.network.specs.declared.refusal.Refusal.{Refusal}
 use Rattle.network.specs.declared.refusal.Refusal.TheVariants.{EstimatorFit, AnswerRow}
-use Rattle.district.specs.Model.{Model}
+use Rattle.network.specs.declared.run.Run.{Run}
+use Rattle.district.specs.Model.{Model, make_answer}
 use Rattle.estimate.specs.Estimates.{Prepared}
 use Rattle.labelling.specs.declared.kinds.Size.{Size}
 use Rattle.labelling.specs.Questions.{room_answer}
@@ -34,6 +35,22 @@ use Rattle.labelling.specs.declared.desk.Desk.{Desk as LentDesk}
 use Rattle.search.specs.Desks.{Stands}
 use Rattle.replay.specs.Calls.{Desk, desk, allowed, offered}
 use Rattle.replay.specs.Sequence.{answered, Sought, Asked, Tried, PlanTried, ByCall}
+
+-- the runs of a district that was made
+abbrev runs_in : {K : Type 0} → Result (Model K) Refusal → List (Run K)
+runs_in (Ok m) = m.runs
+runs_in (Err why) = []
+
+either : {K : Type 0} (b : Bool) (x y : Result (Model K) Refusal) → runs_in x ≡ [] → runs_in y ≡ [] → runs_in (cond b x y) ≡ []
+either true x y p q = p
+either false x y p q = q
+
+-- a fresh district has no runs, so their costs are within bounds
+pub fresh_priced : {K : Type 0} (kind : Kind K) (n capacity : ℕ) (m : Model K) → make_answer K n capacity ≡ Ok m → Priced kind m.runs
+fresh_priced {K} kind n capacity m e =
+    let none : runs_in (make_answer K n capacity) ≡ [] =
+    either (ltb n 1) _ _ refl (either (ltb 1024 n) _ _ refl (either (ltb 4096 capacity) _ _ refl refl)) in
+    subst (Priced kind) (sym none ∙ ap runs_in e) (λ i d l. absurd (omega arith))
 
 -- the questions about memory, passed with less, are passed with more
 pub room_more : {K : Type 0} (l : Layout K) (p q c d : ℕ) (size : Size) → p ≤ q → c ≤ d → Ok size ≡ room_answer l p c → room_answer l p c ≡ room_answer l q d

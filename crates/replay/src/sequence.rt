@@ -22,7 +22,7 @@ fn try_all<Q: Queue, E: Estimator<Cost = Q::Cost>>(
 {
     for turn in turns.iter_mut() {
         let answer = try_call(district, turn.call, desk, &mut turn.row);
-        turn.answer = Some(answer);
+        turn.note(answer);
     }
 }
 

@@ -1,5 +1,8 @@
 // A call with the place for its answer.
-use network::RunNumber;
+ghost use Rattle.std.specs.Prelude.{◌≡◌};
+ghost use Rattle.replay.specs.Sequence.{answered};
+
+use network::{Cost, RunNumber};
 use search::{NoPlan, Plan};
 
 // What a plan may take: so many turns, and of what is lent so many places for labels, codes of the queue, and junctions
@@ -39,4 +42,13 @@ pub struct Turn<K> {
     // None where the call has not been tried.
     pub answer: Option<Result<Reply<K>, NoPlan<K>>>,
     pub row: Vec<u8>,
+}
+
+impl<K: Cost> Turn<K> {
+    // Notes what the call got.
+    pub(crate) fn note(&mut self, answer: Result<Reply<K>, NoPlan<K>>)
+        ensures { self.new ≡ answered self.old answer }
+    {
+        self.answer = Some(answer);
+    }
 }

@@ -1,8 +1,8 @@
 -- Turns tried with the tools that were chosen. Assumes nothing.
-use Rattle.std.proofs.Common.{◌≡◌, ℕ, min, Bool, true, ◌&&◌, List, Result, Ok, Err, IfOk, MatchResult, IsOkAnd, sym, subst, arith}
+use Rattle.std.proofs.Common.{◌≡◌, ℕ, min, Bool, true, ◌&&◌, List, Result, Ok, Err, IfOk, MatchResult, vec_items, sym, subst, arith}
+use Rattle.std.specs.declared.vec.Vec.{Vec}
 use Rattle.network.specs.declared.refusal.Refusal.{Refusal}
 use Rattle.network.specs.Costs.{Kind}
-use Rattle.district.specs.Model.{make_answer}
 use Rattle.estimate.specs.Estimates.{Silence}
 use Rattle.estimate.specs.Greater.{GreaterOf}
 use Rattle.farthest.specs.Distances.{Far}
@@ -12,6 +12,7 @@ use Rattle.commands.specs.declared.command.EstimatorChoice.TheVariants.{Silent, 
 use Rattle.replay.specs.declared.turn.Turn.{Turn}
 use Rattle.replay.specs.Calls.{desk}
 use Rattle.requests.specs.declared.tools.Tools.{Tools}
+use Rattle.sheets.specs.declared.sheet.Untried.{Untried}
 use Rattle.sheets.specs.Sheets.{TriedBy, Tried, makes_of, desk_for, queue_room}
 
 -- a heap over three rows of one length
@@ -57,11 +58,11 @@ moved kind tools n refused labels labels' places places' capacity capacity' ts u
     (subst (λ x. Tried kind tools labels' x n capacity ts ts' refused) q
     (subst (λ x. Tried kind tools x places n capacity ts ts' refused) p h))))
 
--- what a trial says of its turns, by how the making went: they stand as they are left, or only its refusal does
-pub told : {K V : Type 0} (kind : Kind K) (tools : Tools) (labels places n capacity : ℕ) (ts ts' : List (Turn K)) (items : V → List (Turn K)) (P : Unit {0} → V → Type 0) (made : Result (Unit {0}) Refusal) (r : Result V Refusal)
-    → ((u : Unit {0}) (v : V) → P u v → items v ≡ ts') → MatchResult made (λ u. IsOkAnd r (P u)) (λ why. r ≡ Err why) → Tried kind tools labels places n capacity ts ts' made
-    → MatchResult r (λ v. Tried kind tools labels places n capacity ts (items v) (Ok tt)) (λ why. make_answer K n capacity ≡ Err why)
-told kind tools labels places n capacity ts ts' items P (Ok u) (Ok v) left h t = subst (λ x. Tried kind tools labels places n capacity ts x (Ok tt)) (sym (left u v h)) t
-told kind tools labels places n capacity ts ts' items P (Ok u) (Err why) left h t = absurd h
-told kind tools labels places n capacity ts ts' items P (Err why) (Ok v) left h t = cc
-told {K} kind tools labels places n capacity ts ts' items P (Err why) (Err e) left h t = let same : e ≡ why = cc in subst (λ x. make_answer K n capacity ≡ Err x) (sym same) t.0
+-- what a trial says of its turns, by how the making went
+pub told : {K : Type 0} (kind : Kind K) (tools : Tools) (labels places n capacity : ℕ) (ts : List (Turn K)) (v : Vec (Turn K) _) (made : Result (Unit {0}) Refusal) (r : Result (Vec (Turn K) _) (Untried K))
+    → MatchResult made (λ _. r ≡ Ok v) (λ why. r ≡ Err (record { why = why; turns = v })) → Tried kind tools labels places n capacity ts (vec_items v) made
+    → MatchResult r (λ x. Tried kind tools labels places n capacity ts (vec_items x) (Ok tt)) (λ u. Tried kind tools labels places n capacity ts (vec_items u.turns) (Err u.why))
+told kind tools labels places n capacity ts v (Ok u) r h t =
+    subst (λ y. MatchResult y (λ x. Tried kind tools labels places n capacity ts (vec_items x) (Ok tt)) (λ u. Tried kind tools labels places n capacity ts (vec_items u.turns) (Err u.why))) (sym h) t
+told kind tools labels places n capacity ts v (Err why) r h t =
+    subst (λ y. MatchResult y (λ x. Tried kind tools labels places n capacity ts (vec_items x) (Ok tt)) (λ u. Tried kind tools labels places n capacity ts (vec_items u.turns) (Err u.why))) (sym h) t

@@ -108,4 +108,4 @@ pub record SheetTried {K : Type 0} (kind : Kind K) (s : Sheet K) (tools : Tools)
   pub each : map shape asked ≡ map (asked_of tools) (vec_items s.requests)
   pub tried : MatchResult t.turns
       (λ turns. Tried kind tools (labels_for (min s.junctions 1024) (vec_items s.requests)) (min s.junctions 1024 * 12) s.junctions (min s.capacity 4097) asked (vec_items turns) (Ok tt))
-      (λ why. make_answer K s.junctions (min s.capacity 4097) ≡ Err why)
+      (λ untried. Tried kind tools (labels_for (min s.junctions 1024) (vec_items s.requests)) (min s.junctions 1024 * 12) s.junctions (min s.capacity 4097) asked (vec_items untried.turns) (Err untried.why))

@@ -7,5 +7,5 @@ mod trials;
 mod tries;
 
 pub use page::Page;
-pub use sheet::{Entry, Sheet, Trial};
+pub use sheet::{Entry, Sheet, Trial, Untried};
 pub use trials::{find_trial, try_sheet};

@@ -1,5 +1,5 @@
 // The lines of one district, and what they ask for.
-ghost use Rattle.std.specs.Prelude.{◌≡◌, min, IfOk, None, vec_len, OnOk};
+ghost use Rattle.std.specs.Prelude.{◌≡◌, min, IfOk, None, Ok, Err, vec_len, OnOk, MatchResult};
 ghost use Rattle.requests.specs.Requests.{request_of};
 ghost use Rattle.sheets.specs.Sheets.{Fresh, Noted, other_entry, entry_of, SheetTried};
 ghost use Rattle.sheets.specs.declared.sheet.Entry.TheVariants.{NotUnderstood};
@@ -35,11 +35,31 @@ pub struct Sheet<K> {
     pub requests: Vec<Request<K>>,
 }
 
+// Turns that were not tried, since the making was refused.
+#[derive(Drop)]
+pub struct Untried<K> {
+    pub why: Refusal,
+    pub turns: Vec<Turn<K>>,
+}
+
 // What the calls of a sheet got with these tools, or the refusal of the making.
 #[derive(Drop)]
 pub struct Trial<K> {
     pub tools: Tools,
-    pub turns: Result<Vec<Turn<K>>, Refusal>,
+    pub turns: Result<Vec<Turn<K>>, Untried<K>>,
+}
+
+// Turns that were tried, unless the making was refused.
+fn tried<K: Cost>(
+    made: Result<(), Refusal>,
+    turns: Vec<Turn<K>>,
+) -> Result<Vec<Turn<K>>, Untried<K>>
+    ensures { MatchResult made (λ _. result ≡ Ok turns) (λ why. result ≡ Err (record { why = why; turns = turns })) }
+{
+    match made {
+        Ok(()) => Ok(turns),
+        Err(why) => Err(Untried { why, turns }),
+    }
 }
 
 impl<K: Cost + Figured> Sheet<K> {
@@ -109,9 +129,7 @@ impl<K: Cost + Figured> Sheet<K> {
             distances: self.junctions.min(MOST_JUNCTIONS) as usize * DISTANCES,
         };
         let made = try_turns(heap, self.junctions, self.places(), &mut turns, room, tools)?;
-        Ok(Trial {
-            tools,
-            turns: made.map(|()| turns),
-        })
+        let turns = tried(made, turns);
+        Ok(Trial { tools, turns })
     }
 }

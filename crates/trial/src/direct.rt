@@ -161,7 +161,7 @@ impl<'a, K: Kind> Examiner<'a, K> {
         let enough = self.record.turns().min(1_000_000) as u32;
         let said = self.planned(&view, enough, queue, estimator, tally)?;
         let runs = &self.record.runs;
-        let (cost, turns) = walked(self.heap, &self.survey, runs, bounds, |goal| goal.settled)?;
+        let (cost, turns) = walked(self.heap, &self.survey, runs, bounds, false)?;
         hold(said.turns() == Some(turns), Wrong::TheCountOfTurns)?;
         if cost.is_none() {
             hold(said == Said::Unjoined(turns), Wrong::NoLabelWaits)?;

@@ -52,10 +52,8 @@ fn star(rt: &HostRuntime) -> Result<(), Fault> {
     let nothing = Some(Money { amount: 0 });
     let bounds = Table::filled(rt.alloc(), survey.junctions, survey.sets, nothing)?;
     let runs = &record.runs;
-    let (right, turns) = walked(rt.alloc(), &survey, runs, &bounds, |goal| goal.settled)?;
-    let (hasty, _) = walked(rt.alloc(), &survey, runs, &bounds, |goal| {
-        goal.cost.is_some()
-    })?;
+    let (right, turns) = walked(rt.alloc(), &survey, runs, &bounds, false)?;
+    let (hasty, _) = walked(rt.alloc(), &survey, runs, &bounds, true)?;
     let tree = spanning(&survey).unwrap_or(0);
     let right = amount(right);
     let hasty = amount(hasty);
@@ -79,8 +77,8 @@ fn ring(rt: &HostRuntime) -> Result<(), Fault> {
     let old = far_bounds(rt.alloc(), &before)?;
     let new = far_bounds(rt.alloc(), &survey)?;
     let runs = &record.runs;
-    let (stale, _) = walked(rt.alloc(), &survey, runs, &old, |goal| goal.settled)?;
-    let (right, _) = walked(rt.alloc(), &survey, runs, &new, |goal| goal.settled)?;
+    let (stale, _) = walked(rt.alloc(), &survey, runs, &old, false)?;
+    let (right, _) = walked(rt.alloc(), &survey, runs, &new, false)?;
     let stale = amount(stale);
     let right = amount(right);
     println!(rt; "ring, repriced: {right}; {stale} with the distances of before")?;

@@ -1,5 +1,7 @@
 // The calls on a district. Each is a function on the abstract district: a refusal leaves it as found.
 ghost use Rattle.std.specs.Prelude.{◌≡◌, MatchResult, Ok, Err, cond, nat_le};
+ghost use Rattle.std.specs.List.Sorted.{IsBinarySearchResult};
+ghost use Rattle.std.specs.Ordering.{nat_cmp};
 ghost use Rattle.network.specs.declared.refusal.Refusal.TheVariants.{NotAJunction};
 ghost use Rattle.network.specs.Layouts.{Priced};
 ghost use Rattle.district.specs.Model.{model_of, layout_of, seen, lay_answer, after_lay, mark_answer, after_mark, price_answer, Stands, GoesIn, Made, Returned};
@@ -114,7 +116,7 @@ impl<K: Cost> District<K> {
     pub(super) fn place(&self, outlet: Junction) -> Result<usize, usize>
         ensures { MatchResult result (Stands (model_of self.now).outlets outlet) (GoesIn (model_of self.now).outlets outlet) }
     {
-        self.outlets.binary_search(&outlet)
+        place_of(&self.outlets, outlet)
     }
 
     // The junction of a number, if the district has it.
@@ -126,6 +128,13 @@ impl<K: Cost> District<K> {
             _ => Err(Refusal::NotAJunction),
         }
     }
+}
+
+// Where `outlet` stands in a row that rises, or else where it would go in.
+fn place_of(row: &[Junction], outlet: Junction) -> Result<usize, usize>
+    ensures { IsBinarySearchResult (λ y. nat_cmp y outlet) row.now result }
+{
+    row.binary_search(&outlet)
 }
 
 // Whether a run may have this cost.

@@ -1,11 +1,14 @@
 // The calls that change a run or take an outlet away. Each changes one record or mark and leaves all others.
-ghost use Rattle.std.specs.Prelude.{◌≡◌, cond, length, Ok, Err, nat_le};
+ghost use Rattle.std.specs.Prelude.{◌≡◌, ◌<◌, cond, length, Ok, Err, nat_le, set as put_at, slice_index_or};
+ghost use Rattle.std.specs.List.{remove};
+ghost use Rattle.arrayvec.specs.ArrayVec.{array_vec_len};
 ghost use Rattle.network.specs.declared.refusal.Refusal.TheVariants.{NoRun};
 ghost use Rattle.district.specs.Model.{model_of, unmark_answer, after_unmark, reprice_answer, after_reprice, close_answer, after_close, open_answer, after_open};
 
-use super::District;
 use super::calls::let_in;
-use network::{Cost, Refusal};
+use super::{District, MOST_OUTLETS};
+use arrayvec::ArrayVec;
+use network::{Cost, Junction, Refusal, Run};
 
 impl<K: Cost> District<K> {
     // A new cost for a run, open or closed.
@@ -15,7 +18,7 @@ impl<K: Cost> District<K> {
     {
         let at = self.run(run)?;
         let_in(cost)?;
-        self.runs[at].cost = cost;
+        set_cost(&mut self.runs, at, cost);
         Ok(())
     }
 
@@ -43,7 +46,7 @@ impl<K: Cost> District<K> {
         let outlet = self.junction(junction)?;
         match self.place(outlet) {
             Ok(at) => {
-                self.outlets.remove(at);
+                take_out(&mut self.outlets, at);
                 Ok(())
             }
             Err(_) => Err(Refusal::NotMarked),
@@ -59,7 +62,7 @@ impl<K: Cost> District<K> {
         if self.open[at] == mark {
             return Err(Refusal::RunState);
         }
-        self.open[at] = mark;
+        set_mark(&mut self.open, at, mark);
         Ok(())
     }
 
@@ -72,4 +75,28 @@ impl<K: Cost> District<K> {
             _ => Err(Refusal::NoRun),
         }
     }
+}
+
+// The run at `i` at another cost.
+fn set_cost<K: Cost>(runs: &mut [Run<K>], i: usize, cost: K)
+    requires { i < length runs.old }
+    ensures { (d : _) → runs.new ≡ put_at runs.old i (record { a = (slice_index_or runs.old i d).a; b = (slice_index_or runs.old i d).b; cost = cost }) }
+{
+    runs[i].cost = cost;
+}
+
+// The run at `i` open or closed, as `mark` says.
+fn set_mark(open: &mut [bool], i: usize, mark: bool)
+    requires { i < length «open».old }
+    ensures { «open».new ≡ put_at «open».old i mark }
+{
+    open[i] = mark;
+}
+
+// Takes the one at `at` out, and moves those after it down by one.
+fn take_out(outlets: &mut ArrayVec<Junction, MOST_OUTLETS>, at: usize)
+    requires { at < array_vec_len outlets.old }
+    ensures { outlets.new.items ≡ remove outlets.old.items at }
+{
+    outlets.remove(at);
 }

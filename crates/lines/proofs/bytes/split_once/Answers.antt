@@ -1,5 +1,4 @@
 use Rattle.std.proofs.Common.{suc, ◌+◌, length, take, drop, Some, None, ap, ◌∙◌, sym, arith, add-one, take_all, length-drop}
-use Rattle.std.proofs.lemmas.List.{take_rest}
 use Rattle.lines.proofs.Splitting.{at, before_is, past_some, past_none}
 use Rattle.lines.proofs.bytes.split_once.Goals as goal
 
@@ -14,7 +13,7 @@ returns c =
     let bytes = c.args.bytes.now in
     let at_byte = c.in_ok-at.at in
     let found = at _ bytes (Some at_byte) (sym c.in_ok-at.was ∙ c.first_at.ensures) in
-    let rest = take_rest bytes (at_byte + 1) in (
+    let rest = c.rest_after.ensures in (
       before_is c.args.byte bytes ∙ ap (λ n. take n bytes) found.0,
       past_some c.args.byte bytes (omega (arith, found)) ∙ ap (λ n. Some (drop n bytes)) (ap suc found.0 ∙ sym (add-one at_byte)) ∙ ap Some (sym rest),
       omega (arith, ap length rest, length-drop (at_byte + 1) bytes, found),

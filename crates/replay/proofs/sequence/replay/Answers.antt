@@ -1,6 +1,5 @@
 use Rattle.std.proofs.Common.{refl}
 use Rattle.std.proofs.lemmas.Result.{err_from_is_err_and}
-use Rattle.district.specs.Model.{model_of}
 use Rattle.search.proofs.Standing.{stands_as_is}
 use Rattle.replay.proofs.sequence.replay.Goals as goal
 
@@ -11,9 +10,3 @@ returns-in_err-district g c =
       replays = rw (refused.1, refused.2) (c.in_err-district.ensures.0, c.in_err-district.ensures.1, refl);
       stands = stands_as_is g.Q.Queue.lender g.Q.Queue.waiting g.E.Estimator.lender g.E.Estimator.within c.args.desk.now;
     }
-
-pub returns : goal.returns
-returns g c = record {
-  replays = (model_of c.in_ok-district.district, c.in_ok-district.ensures, c.try_all.ensures.replays);
-  stands = c.try_all.ensures.stands;
-}

@@ -1,8 +1,8 @@
-use Rattle.std.proofs.Common.{get_or, subst, rules}
+use Rattle.std.proofs.Common.{get_or, sym, subst, rules}
 use Rattle.district.specs.Model.{model_of}
 use Rattle.search.proofs.Standing.{stands_on}
 use Rattle.replay.specs.Calls.{Desk}
-use Rattle.replay.specs.Sequence.{Tried}
+use Rattle.replay.specs.Sequence.{Answered, Tried}
 use Rattle.replay.proofs.Left.{step, finish}
 use Rattle.replay.proofs.Trying.{answered_by, same_offered}
 use Rattle.replay.proofs.sequence.try_all.Goals as goal
@@ -19,9 +19,10 @@ loop-turn-preserved g c =
     let same = same_offered g.Q.Queue.lender g.Q.Queue.waiting g.E.Estimator.lender g.E.Estimator.within c.args.desk.now c.loop-turn.desk I.stands in
     let tried = subst (λ (x : Desk). Tried kind makes x m row c.try_call-answer.new.row c.try_call-answer.result t.call) same c.try_call-answer.ensures.answers in
     let answers = answered_by kind makes _ m t row c.try_call-answer.new.row c.try_call-answer.result c.deref_mut.ensures.value c.try_call-answer.auto.row t.call tried in
+    let noted = subst (Answered kind makes _ m t) (sym c.note.ensures) answers in
     record {
       stands = stands_on g.Q.Queue.lender g.Q.Queue.waiting g.E.Estimator.lender g.E.Estimator.within c.args.desk.now c.loop-turn.desk c.try_call-answer.new.desk I.stands c.try_call-answer.ensures.stands;
-      left = step kind makes _ (model_of c.args.district.now) c.args.turns.now m (model_of c.try_call-answer.new.district) c.loop-turn.turn-index c.loop-turn.turns d _ (search rules) answers c.try_call-answer.ensures.writes I.left;
+      left = step kind makes _ (model_of c.args.district.now) c.args.turns.now m (model_of c.try_call-answer.new.district) c.loop-turn.turn-index c.loop-turn.turns d _ (search rules) noted c.try_call-answer.ensures.writes I.left;
     }
 
 pub returns : goal.returns

@@ -15,7 +15,7 @@ returns-in-Ok g c =
     let h = goes_out m o (omega (arith, j.0, j.1)) (holds m.outlets o _ s) in
     record {
       answers = sym h.0 ∙ ap (unmark_answer m) j.0;
-      writes = ap (with_outlets m) (c.remove.ensures.items ∙ sym (del_at m.outlets o _ s c.args.self.now.rising)) ∙ (sym h.1 ∙ ap (after_unmark m) j.0);
+      writes = ap (with_outlets m) (c.take_out.ensures ∙ sym (del_at m.outlets o _ s c.args.self.now.rising)) ∙ (sym h.1 ∙ ap (after_unmark m) j.0);
     }
 
 pub returns-in-Err : goal.returns-in-Err
@@ -29,9 +29,9 @@ returns-in-Err g c =
 pub invariant_of-self-clause-rising : goal.invariant_of-self-clause-rising
 invariant_of-self-clause-rising g c =
     let D = c.args.self.now in
-    subst IsStrictlyIncreasing (sym c.remove.ensures.items) (rising_less D.outlets.items c.in_ok-outlet.outlet _ c.in-Ok.ensures D.rising)
+    subst IsStrictlyIncreasing (sym c.take_out.ensures) (rising_less D.outlets.items c.in_ok-outlet.outlet _ c.in-Ok.ensures D.rising)
 
 pub invariant_of-self-clause-inside : goal.invariant_of-self-clause-inside
 invariant_of-self-clause-inside g c =
     let D = c.args.self.now in
-    subst (AllBelow D.junctions) (sym c.remove.ensures.items) (below_less D.outlets.items c.in_ok-outlet.outlet _ c.in-Ok.ensures D.junctions D.inside)
+    subst (AllBelow D.junctions) (sym c.take_out.ensures) (below_less D.outlets.items c.in_ok-outlet.outlet _ c.in-Ok.ensures D.junctions D.inside)

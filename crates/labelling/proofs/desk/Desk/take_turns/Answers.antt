@@ -1,11 +1,11 @@
 use Rattle.std.proofs.Common.{◌≡◌, suc, ◌+◌, ◌-◌, Some, None, ap, ◌∙◌, arith}
 use Rattle.labelling.specs.Tables.{rule, least_waiting}
 use Rattle.labelling.specs.Turns.{took}
-use Rattle.labelling.specs.Labelling.{ended, stopped}
+use Rattle.labelling.specs.Labelling.{ended, settles, stopped}
 use Rattle.labelling.specs.Desks.{tables_on}
 use Rattle.labelling.proofs.Desks.{kept_then, same_then}
 use Rattle.labelling.proofs.Taking.{least_is}
-use Rattle.labelling.proofs.Labels.{labelled_stop, labelled_none, labelled_finished, labelled_more}
+use Rattle.labelling.proofs.Labels.{labelled_stop, settled_none, settled_finished, settled_more}
 use Rattle.labelling.proofs.desk.Desk.take_turns.Goals as goal
 
 pub returns-in_default-clause-same : goal.returns-in_default-clause-same
@@ -20,13 +20,13 @@ returns-in_default-clause-same g c =
     let runs = c.args.view.now.runs.now in
     let inv = c.loop-turns.invariant in
     let e : c.args.limit - n ≡ suc (c.args.limit - (n + 1)) = omega (arith, c.loop-turns-test.true) in
-    labelled_none (rule kind (bound d.estimator) c.args.size) marks runs c.args.goal n t (c.args.limit - n) (c.args.limit - (n + 1)) e _
-    (same_then kind c.args.size bound d s inv.0.estimator (λ r. took r marks runs c.args.goal (n + 1) t (least_waiting r t)) _ c.take_turn.ensures.same)
-    (same_then kind c.args.size bound d s inv.0.estimator (λ r. least_waiting r t) None c.in_default.ensures.answers)
+    settled_none (rule kind (bound d.estimator) c.args.size) marks runs c.args.goal n t (c.args.limit - n) (c.args.limit - (n + 1)) e _
+    (same_then kind c.args.size bound d s inv.0.estimator (λ r. took r marks runs c.args.goal (n + 1) t (least_waiting r t)) _ c.take_turn_towards.ensures.same)
+    (same_then kind c.args.size bound d s inv.0.estimator (λ r. settles c.args.goal (least_waiting r t)) None c.in_default.ensures.answers)
     ∙ inv.1
 
-pub returns-then-taken-goal-clause-same : goal.returns-then-taken-goal-clause-same
-returns-then-taken-goal-clause-same g c =
+pub returns-then-is_last-clause-same : goal.returns-then-is_last-clause-same
+returns-then-is_last-clause-same g c =
     let d = c.args.self.now in
     let s = c.loop-turns.self in
     let t = tables_on s in
@@ -37,9 +37,9 @@ returns-then-taken-goal-clause-same g c =
     let runs = c.args.view.now.runs.now in
     let inv = c.loop-turns.invariant in
     let e : c.args.limit - n ≡ suc (c.args.limit - (n + 1)) = omega (arith, c.loop-turns-test.true) in
-    labelled_finished (rule kind (bound d.estimator) c.args.size) marks runs c.args.goal n t (c.args.limit - n) (c.args.limit - (n + 1)) e _
-    (same_then kind c.args.size bound d s inv.0.estimator (λ r. took r marks runs c.args.goal (n + 1) t (least_waiting r t)) _ c.take_turn.ensures.same)
-    c.in-Some.taken (same_then kind c.args.size bound d s inv.0.estimator (λ r. least_waiting r t) (Some c.in-Some.taken) c.in-Some.ensures.answers) c.if-taken-goal.true
+    settled_finished (rule kind (bound d.estimator) c.args.size) marks runs c.args.goal n t (c.args.limit - n) (c.args.limit - (n + 1)) e _
+    (same_then kind c.args.size bound d s inv.0.estimator (λ r. took r marks runs c.args.goal (n + 1) t (least_waiting r t)) _ c.take_turn_towards.ensures.same)
+    c.in-Some.is_last c.if-is_last.true (same_then kind c.args.size bound d s inv.0.estimator (λ r. settles c.args.goal (least_waiting r t)) (Some c.in-Some.is_last) c.in-Some.ensures.answers)
     ∙ inv.1
 
 pub loop-turns-preserved : goal.loop-turns-preserved
@@ -54,10 +54,10 @@ loop-turns-preserved g c =
     let runs = c.args.view.now.runs.now in
     let inv = c.loop-turns.invariant in
     let e : c.args.limit - n ≡ suc (c.args.limit - (n + 1)) = omega (arith, c.loop-turns-test.true) in (
-      kept_then bound d s inv.0 c.take_turn.new.self c.take_turn.ensures.kept,
-      labelled_more (rule kind (bound d.estimator) c.args.size) marks runs c.args.goal n t (c.args.limit - n) (c.args.limit - (n + 1)) e _
-          (same_then kind c.args.size bound d s inv.0.estimator (λ r. took r marks runs c.args.goal (n + 1) t (least_waiting r t)) _ c.take_turn.ensures.same)
-          c.in-Some.taken (same_then kind c.args.size bound d s inv.0.estimator (λ r. least_waiting r t) (Some c.in-Some.taken) c.in-Some.ensures.answers) c.if-taken-goal.false
+      kept_then bound d s inv.0 c.take_turn_towards.new.self c.take_turn_towards.ensures.kept,
+      settled_more (rule kind (bound d.estimator) c.args.size) marks runs c.args.goal n t (c.args.limit - n) (c.args.limit - (n + 1)) e _
+          (same_then kind c.args.size bound d s inv.0.estimator (λ r. took r marks runs c.args.goal (n + 1) t (least_waiting r t)) _ c.take_turn_towards.ensures.same)
+          c.in-Some.is_last c.if-is_last.false (same_then kind c.args.size bound d s inv.0.estimator (λ r. settles c.args.goal (least_waiting r t)) (Some c.in-Some.is_last) c.in-Some.ensures.answers)
           ∙ inv.1,
       omega (arith, c.loop-turns-test.true),
     )

@@ -1,6 +1,5 @@
-use Rattle.std.proofs.Common.{◌≡◌, ◌*◌, min, map, vec_items, refl, ap, ◌∙◌, rules}
+use Rattle.std.proofs.Common.{◌≡◌, ◌*◌, min, map, vec_items, sym, refl, ap, ◌∙◌, rules}
 use Rattle.std.proofs.lemmas.List.{with_items_is}
-use Rattle.std.specs.Vec.{with_items}
 use Rattle.requests.specs.Requests.{asked_of, labels_for}
 use Rattle.sheets.proofs.Trying.{moved, told}
 use Rattle.sheets.proofs.sheet.Sheet.try_with.Goals as goal
@@ -16,8 +15,8 @@ returns g c =
       asked = vec_items turns;
       each = c.in_ok-turns.ensures ∙ ap (map (asked_of tools)) c.deref.ensures.value;
       tried =
-          told g.K.Cost.kind tools _ _ s.junctions (min s.capacity 4097) (vec_items turns) left vec_items _ c.in_ok-made.made c.map.result (λ u v k. let same : v ≡ with_items turns left = search rules in ap vec_items same ∙ with_items_is turns left (c.try_turns.auto.turns ∙ search rules)) c.map.ensures.cases
+          told g.K.Cost.kind tools _ _ s.junctions (min s.capacity 4097) (vec_items turns) _ c.in_ok-made.made c.tried-turns.result c.tried-turns.ensures
           (moved g.K.Cost.kind tools s.junctions c.in_ok-made.made c.labels_for.result (labels_for (min s.junctions 1024) (vec_items s.requests)) (c.min.result * 12) (min s.junctions 1024 * 12)
-          c.places.result (min s.capacity 4097) c.deref_mut.result.now (vec_items turns) left left (c.labels_for.ensures ∙ ap (labels_for (min s.junctions 1024)) c.deref-2.ensures.value) (ap (λ n. n * 12) c.min.ensures)
-          c.places.ensures c.deref_mut.ensures.value refl c.in_ok-made.ensures);
+          c.places.result (min s.capacity 4097) c.deref_mut.result.now (vec_items turns) left _ (c.labels_for.ensures ∙ ap (labels_for (min s.junctions 1024)) c.deref-2.ensures.value) (ap (λ n. n * 12) c.min.ensures)
+          c.places.ensures c.deref_mut.ensures.value (sym (with_items_is turns left (c.try_turns.auto.turns ∙ search rules))) c.in_ok-made.ensures);
     }
