@@ -1,9 +1,11 @@
 -- The place of an outlet in a row that rises, and the row with one more or one less. Assumes nothing.
-use Rattle.std.proofs.Common.{◌≡◌, ℕ, zero, suc, ◌+◌, ◌<◌, ◌≤◌, true, false, cond, eqb, ltb, ◌≢◌, ◌⊎◌, List, [], ◌∷◌, length, get_or, Ok, Err, refl, ap, ◌∙◌, subst, ◌-◌, inl, inr, arith}
+use Rattle.std.proofs.Common.{◌≡◌, ℕ, zero, suc, ◌+◌, ◌<◌, ◌≤◌, true, false, cond, eqb, ltb, ◌≢◌, ◌⊎◌, List, [], ◌∷◌, ◌++◌, length, get_or, take, drop, Ok, Err, sym, refl, ap, ◌∙◌, subst, ◌-◌, inl, inr, arith}
+use Rattle.std.proofs.lemmas.List.{ext_get_or, get_or-take, length-take-le, length_push, take_all}
+use Rattle.std.proofs.Math.Seq.{take-append_seam}
 use Rattle.std.proofs.lemmas.List.Edits.{length-insert, get_or-insert_below, get_or-insert_at, get_or-insert_above, length-remove, get_or-remove_below, get_or-remove_above}
 use Rattle.std.proofs.lemmas.List.Sorted.{searched}
 use Rattle.std.proofs.lemmas.Map.Keys.{sorted_from_strictly_increasing, non_decreasing_from_sorted}
-use Rattle.std.specs.List.{insert, remove}
+use Rattle.std.specs.List.{insert, remove, refill}
 use Rattle.std.specs.Prelude.{Result, MatchResult}
 use Rattle.std.specs.List.Sorted.{IsStrictlyIncreasing, IsBinarySearchResult}
 use Rattle.std.specs.Ordering.{nat_cmp}
@@ -137,3 +139,38 @@ module _ {K : Type 0} (m : Model K) (j : ℕ) (l : j < m.junctions) where
 
   pub goes_out : has j m.outlets ≡ true → (unmark_answer m j ≡ Ok tt) × (after_unmark m j ≡ with_outlets m (del j m.outlets))
   goes_out h = let e : unmark_answer m j ≡ Ok tt = grind (arith, nat_tests) in (e, ap (λ r. if_taken r (with_outlets m (del j m.outlets)) m) e)
+
+-- os' is os with j put in at p
+pub record Put (os os' : List ℕ) (n p j : ℕ) : Type 0 where
+  pub fit : p ≤ n
+  pub room : n < length os
+  pub same : length os' ≡ length os
+  pub below : (k : ℕ) → k < p → get_or os' k 0 ≡ get_or os k 0
+  pub here : get_or os' p 0 ≡ j
+  pub above : (k : ℕ) → p ≤ k → k < n → get_or os' (k + 1) 0 ≡ get_or os k 0
+
+module _ (os os' : List ℕ) (n p j : ℕ) (put : Put os os' n p j) where
+  pub put_outlets : take (n + 1) os' ≡ insert (take n os) p j
+  put_outlets =
+      let f = put.fit in let r = put.room in let s = put.same in
+      let ln : length (take n os) ≡ n = length-take-le n os (omega arith) in
+      let ln' : length (take (n + 1) os') ≡ n + 1 = length-take-le (n + 1) os' (omega arith) in
+      let le : p ≤ length (take n os) = omega arith in
+      let li = length-insert (take n os) p j le in
+      ext_get_or 0 (take (n + 1) os') (insert (take n os) p j) (omega arith)
+      (λ i l. elim (sides i p) [
+        | inl h ↦ get_or-take (n + 1) os' i 0 (omega arith) ∙ (put.below i h ∙ (sym (get_or-take n os i 0 (omega arith)) ∙ sym (get_or-insert_below (take n os) p j 0 i h le)))
+        | inr (inl e) ↦ get_or-take (n + 1) os' i 0 (omega arith) ∙ (ap (λ k. get_or os' k 0) e ∙ (put.here ∙ (sym (get_or-insert_at (take n os) p j 0 le) ∙ ap (λ k. get_or (insert (take n os) p j) k 0) (sym e))))
+        | inr (inr (m, q, e)) ↦ get_or-take (n + 1) os' i 0 (omega arith) ∙ (ap (λ k. get_or os' k 0) e ∙ (put.above m q (omega arith) ∙ (sym (get_or-take n os m 0 (omega arith)) ∙ (sym (get_or-insert_above (take n os) p j 0 m q le) ∙ ap (λ k. get_or (insert (take n os) p j) k 0) (sym e)))))
+      ])
+
+-- the same of a whole row with one more at its end
+pub put_whole : (os os' : List ℕ) (n p j : ℕ) → n ≡ length os → Put (os ++ j ∷ []) os' n p j → os' ≡ insert os p j
+put_whole os os' n p j e put =
+    let s = put.same in
+    let long : length (os ++ j ∷ []) ≡ length os + 1 = length_push os j in
+    sym (take_all (n + 1) os' (omega arith)) ∙ put_outlets (os ++ j ∷ []) os' n p j put ∙ ap (λ xs. insert xs p j) (ap (λ k. take k (os ++ j ∷ [])) e ∙ take-append_seam os (j ∷ []))
+
+-- a row written over whole
+pub refilled : (n : ℕ) (xs ws : List ℕ) → n ≡ length ws → refill n xs ws ≡ ws
+refilled n xs ws e = ap (λ k. take k (ws ++ drop (length ws) xs)) e ∙ take-append_seam ws (drop (length ws) xs)

@@ -1,12 +1,14 @@
 // The calls on a district. Each is a function on the abstract district: a refusal leaves it as found.
-ghost use Rattle.std.specs.Prelude.{◌≡◌, MatchResult, Ok, Err, cond, nat_le};
+ghost use Rattle.std.specs.Prelude.{◌≡◌, ℕ, ◌+◌, ◌<◌, ◌≤◌, MatchResult, Ok, Err, cond, nat_le, length, slice_index};
+ghost use Rattle.std.specs.List.{insert};
+ghost use Rattle.arrayvec.specs.ArrayVec.{array_vec_len};
 ghost use Rattle.std.specs.List.Sorted.{IsBinarySearchResult};
 ghost use Rattle.std.specs.Ordering.{nat_cmp};
 ghost use Rattle.network.specs.declared.refusal.Refusal.TheVariants.{NotAJunction};
 ghost use Rattle.network.specs.Layouts.{Priced};
 ghost use Rattle.district.specs.Model.{model_of, layout_of, seen, lay_answer, after_lay, mark_answer, after_mark, price_answer, Stands, GoesIn, Made, Returned};
 
-use super::{District, Memory, Unmade};
+use super::{District, MOST_OUTLETS, Memory, Unmade};
 use crate::view::View;
 use arrayvec::ArrayVec;
 use network::{Cost, Junction, Refusal, Run, RunNumber};
@@ -78,7 +80,7 @@ impl<K: Cost> District<K> {
             Ok(_) => Err(Refusal::AlreadyMarked),
             Err(_) if self.outlets.is_full() => Err(Refusal::OutletsFull),
             Err(at) => {
-                self.outlets.insert(at, outlet);
+                take_in(&mut self.outlets, at, outlet);
                 Ok(())
             }
         }
@@ -128,6 +130,32 @@ impl<K: Cost> District<K> {
             _ => Err(Refusal::NotAJunction),
         }
     }
+}
+
+// Moves the places from `at` to `n` of a row up by one, and puts `j` at `at`. The library's `insert` turns them by `rotate_right`,
+// which is made a call of `memmove`; the C interface asks for no such name.
+fn put_in(row: &mut [Junction], n: usize, at: usize, j: Junction)
+    requires { (n < length row.old) × (at ≤ n) }
+    ensures below { (k : ℕ) → k < at → slice_index row.new k ≡ slice_index row.old k }
+    ensures here { slice_index row.new at ≡ j }
+    ensures above { (k : ℕ) → at ≤ k → k < n → slice_index row.new (k + 1) ≡ slice_index row.old k }
+{
+    let mut k = n;
+    while k > at {
+        row[k] = row[k - 1];
+        k -= 1;
+    }
+    row[at] = j;
+}
+
+// One more outlet at `at`.
+fn take_in(outlets: &mut ArrayVec<Junction, MOST_OUTLETS>, at: usize, outlet: Junction)
+    requires { (at ≤ array_vec_len outlets.old) × (array_vec_len outlets.old < 12) }
+    ensures { outlets.new.items ≡ insert outlets.old.items at outlet }
+{
+    let n = outlets.len();
+    outlets.push(outlet);
+    put_in(outlets.as_mut_slice(), n, at, outlet);
 }
 
 // Where `outlet` stands in a row that rises, or else where it would go in.

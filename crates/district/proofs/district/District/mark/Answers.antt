@@ -33,17 +33,17 @@ returns-in-Err-2 g c =
     let h = goes_in m o (omega (arith, j.0, j.1)) (lacks m.outlets o _ s) (let v = c.if-is_full.ensures.value in grind (arith, nat_tests)) in
     record {
       answers = sym h.0 ∙ ap (mark_answer m) j.0;
-      writes = ap (with_outlets m) (c.insert.ensures.items ∙ sym (ins_at m.outlets o _ s)) ∙ (sym h.1 ∙ ap (after_mark m) j.0);
+      writes = ap (with_outlets m) (c.take_in.ensures ∙ sym (ins_at m.outlets o _ s)) ∙ (sym h.1 ∙ ap (after_mark m) j.0);
     }
 
 pub invariant_of-self-clause-rising : goal.invariant_of-self-clause-rising
 invariant_of-self-clause-rising g c =
     let D = c.args.self.now in
-    subst IsStrictlyIncreasing (sym c.insert.ensures.items) (rising_more D.outlets.items c.in_ok-outlet.outlet _ c.in-Err.ensures D.rising)
+    subst IsStrictlyIncreasing (sym c.take_in.ensures) (rising_more D.outlets.items c.in_ok-outlet.outlet _ c.in-Err.ensures D.rising)
 
 pub invariant_of-self-clause-inside : goal.invariant_of-self-clause-inside
 invariant_of-self-clause-inside g c =
     let D = c.args.self.now in
     let o = c.in_ok-outlet.outlet in
     let j = let_through D.junctions c.args.junction o _ c.in_ok-outlet.ensures in
-    subst (AllBelow D.junctions) (sym c.insert.ensures.items) (below_more D.outlets.items o _ c.in-Err.ensures D.junctions (omega (arith, j.0, j.1)) D.inside)
+    subst (AllBelow D.junctions) (sym c.take_in.ensures) (below_more D.outlets.items o _ c.in-Err.ensures D.junctions (omega (arith, j.0, j.1)) D.inside)
