@@ -11,7 +11,8 @@ use estimate::Estimator;
 use labelling::Desk;
 use queue::Queue;
 
-// Tries the call of each turn on the district, in their order.
+// Tries the call of each turn on the district, in their order: by the index, so that the loop's invariant says of which
+// turn it begins.
 fn try_all<Q: Queue, E: Estimator<Cost = Q::Cost>>(
     district: &mut District<Q::Cost>,
     turns: &mut [Turn<Q::Cost>],
@@ -20,7 +21,8 @@ fn try_all<Q: Queue, E: Estimator<Cost = Q::Cost>>(
     ensures replays { Replayed Q.Cost.Cost.kind E.makes (offered Q.waiting E.within desk.old) (model_of district.old) turns.old turns.new }
     ensures stands { Stands Q.Queue.lender Q.waiting E.Estimator.lender E.within desk.old desk.new }
 {
-    for turn in turns.iter_mut() {
+    for i in 0..turns.len() {
+        let turn = &mut turns[i];
         let answer = try_call(district, turn.call, desk, &mut turn.row);
         turn.note(answer);
     }
