@@ -11,8 +11,8 @@ use estimate::Estimator;
 use labelling::Desk;
 use queue::Queue;
 
-// Tries the call of each turn on the district, in their order: by the index, so that the loop's invariant says of which
-// turn it begins.
+// Tries the call of each turn on the district, in their order. The loop goes by the index: its range says at which turn it
+// begins, and its invariant is refused at any but the first.
 fn try_all<Q: Queue, E: Estimator<Cost = Q::Cost>>(
     district: &mut District<Q::Cost>,
     turns: &mut [Turn<Q::Cost>],
