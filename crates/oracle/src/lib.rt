@@ -10,4 +10,6 @@ pub mod said;
 pub mod subsets;
 pub mod survey;
 pub mod table;
+#[cfg(test)]
+mod tests;
 pub mod walk;

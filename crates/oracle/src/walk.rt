@@ -1,4 +1,6 @@
 // A plain labelling of the trial's own, with bounds of any kind, right or wrong.
+ghost use Rattle.std.specs.Prelude.{◌≡◌, ◌*◌, ◌≤◌, ◌&&◌, ◌||◌, is_some, IfOk, vec_len};
+
 use crate::costs::{added, bit, lesser};
 use crate::record::Laid;
 use crate::survey::Survey;
@@ -31,7 +33,9 @@ impl<K: Cost> Walk<'_, K> {
     }
 
     // A candidate for a label.
-    fn offer(&mut self, v: usize, set: usize, cost: Option<K>) {
+    fn offer(&mut self, v: usize, set: usize, cost: Option<K>)
+        ensures { vec_len self.new.labels ≡ vec_len self.old.labels }
+    {
         if let Some(label) = self.labels.get_mut(self.survey.code(v, set)) {
             if !label.settled {
                 label.cost = lesser(label.cost, cost);
@@ -97,7 +101,9 @@ fn started<'a, K: Cost>(
     heap: Global,
     survey: &'a Survey<K>,
     runs: &'a [Laid<K>],
-) -> Result<Walk<'a, K>, AllocError> {
+) -> Result<Walk<'a, K>, AllocError>
+    ensures { IfOk result (λ w. vec_len w.labels ≤ survey.now.junctions * survey.now.sets) }
+{
     let unreached = Reached {
         cost: None,
         settled: false,
@@ -115,15 +121,36 @@ fn started<'a, K: Cost>(
     Ok(walk)
 }
 
-// A labelling that goes on until `ends` says of the root's label with all others that it ends.
-fn walk_until<K: Cost, F: Fn(Reached<K>) -> bool>(
+// Where a walk ends.
+pub trait Until<K> {
+    // Whether it ends where the root's label with all others is this.
+    fn ends(&self, goal: Reached<K>) -> bool;
+}
+
+// Right is where that label is settled; where it is first reached is hasty, and wrong.
+#[derive(Clone, Copy)]
+struct AtGoal {
+    hasty: bool,
+}
+
+impl<K: Cost> Until<K> for AtGoal {
+    fn ends(&self, goal: Reached<K>) -> bool
+        ensures { result ≡ goal.settled || self.now.hasty && is_some goal.cost }
+    {
+        goal.settled || self.hasty && goal.cost.is_some()
+    }
+}
+
+// What it costs to join all outlets and how many turns that took; no cost where no label waits. It goes on until `until`
+// says that it ends.
+pub fn walk_until<K: Cost, U: Until<K>>(
     heap: Global,
     survey: &Survey<K>,
     runs: &[Laid<K>],
     bounds: &Table<K>,
-    ends: F,
+    until: &U,
 ) -> Result<(Option<K>, u32), AllocError>
-    requires { F.IsAlwaysCallable ends }
+    ensures { IfOk result (λ r. r.1 ≤ survey.now.junctions * survey.now.sets) }
 {
     let mut walk = started(heap, survey, runs)?;
     let goal = survey.code(survey.root(), survey.all());
@@ -134,15 +161,15 @@ fn walk_until<K: Cost, F: Fn(Reached<K>) -> bool>(
         };
         turns = turns.saturating_add(1);
         walk.settle(code);
-        if ends(walk.label(goal)) {
+        if until.ends(walk.label(goal)) {
             break;
         }
     }
     Ok((walk.label(goal).cost, turns))
 }
 
-// What it costs to join all outlets and how many turns that took; no cost where no label waits. With `hasty` it
-// ends when the root's label with all others is first reached, which is wrong.
+// The same until the root's label with all others is settled. With `hasty` it ends when that is first reached, which is
+// wrong.
 pub fn walked<K: Cost>(
     heap: Global,
     survey: &Survey<K>,
@@ -150,9 +177,7 @@ pub fn walked<K: Cost>(
     bounds: &Table<K>,
     hasty: bool,
 ) -> Result<(Option<K>, u32), AllocError> {
-    walk_until(heap, survey, runs, bounds, |goal| {
-        goal.settled || hasty && goal.cost.is_some()
-    })
+    walk_until(heap, survey, runs, bounds, &AtGoal { hasty })
 }
 
 // The bounds of the farthest outlet, by the distances of a survey, for each label.
